@@ -1,0 +1,7 @@
+-- What the theorems of this crate speak of.
+pub mod Modulus
+pub mod Lists
+pub mod Powers
+pub mod Residues
+pub mod Certificate
+pub mod Polynomials
