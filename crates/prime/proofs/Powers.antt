@@ -60,12 +60,13 @@ power-mul m x i j =
 pub power-base : (m x y e : ℕ) → power m (x * y) e ≡ power m x e * power m y e % m
 power-base m x y e = rw (power-is m (x * y) e, power-is m x e, power-is m y e, pow-base x y e) (mul-mod m (x ^ e) (y ^ e))
 
--- the fast form is the same, however far it squares
+-- one squaring
 halved : (m x e : ℕ) → x ^ (e % 2) * power m (x * x % m) (e / 2) % m ≡ power m x e
 halved m x e =
     rw (power-same m (x * x % m) (x * x) (e / 2) (mod-mod (x * x) m), power-is m (x * x) (e / 2), power-is m x e)
     (mul-same-right m (x ^ (e % 2)) _ _ (mod-mod ((x * x) ^ (e / 2)) m) ∙ ap (λ (y : ℕ). y % m) (pow-halved x e))
 
+-- the fast form is the same, however far it squares
 pub fast-power : (m k x e : ℕ) → fast m k x e ≡ power m x e
 unfolding fast
 fast-power m zero x e = refl
