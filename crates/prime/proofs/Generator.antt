@@ -30,6 +30,7 @@ module _ (n g : ℕ) where
     positive i h =
         pos-of-ne-zero (λ e. suc-ne-zero 0 (sym (back i h) ∙ zero-times m (power m g i) (power m g (n - i)) (power-mod m g i ∙ e)))
 
+    -- a multiple of n below n is 0
     small : (d c : ℕ) → d < n → d ≡ n * c → d ≡ 0
     small d zero h e = e ∙ mul-zero n
     small d (suc c) h e = omega (arith, mul-suc n c)

@@ -1,12 +1,12 @@
--- Where each number is 0 or has an inverse modulo m, a factor that is not 0 cancels, and a product is 0 only if a factor is.
+-- Where each number is 0 or has an inverse modulo m: a factor that is not 0 cancels, a product is 0 only if a factor is, and m is a prime.
 use mathlib.Core.Path.{_≡_, sym, ap, _∙_}
-use mathlib.Core.Logic.{_⊎_, inl, inr, _≢_}
+use mathlib.Core.Logic.{_⊎_, inl, inr, _≢_, ⊎-elim}
 use Prim.Native.Nat.{ℕ, _*_, _%_, _<_}
 use native.Mathlib.Omega.{arith}
-use native.Mathlib.Nat.{mod-eq-of-lt, add-mul-mod-self-left, one-mul, mul-zero, zero-mod}
+use native.Mathlib.Nat.{mod-eq-of-lt, add-mul-mod-self-left, one-mul, mul-zero, mul-comm, zero-mod, mod-self, eq-of-mul-eq-mul-left, eq-one-of-dvd-one, dvd-mul-left}
 use native.Mathlib.Decide.{ℕ-discrete}
 use Rattle.prime.specs.Residues.{Multiple, Inverse, Field}
-use Rattle.prime.proofs.Congruence.{mul-same-left, mul-same-right, zero-of-multiple}
+use Rattle.prime.proofs.Congruence.{mul-same-left, mul-same-right, zero-of-multiple, multiple-of-zero}
 
 module _ (m : ℕ) (big : 1 < m) (field : Field m) where
   pub inverse : (x : ℕ) → x % m ≢ 0 → (y : ℕ) × (x * y % m ≡ 1)
@@ -33,3 +33,15 @@ module _ (m : ℕ) (big : 1 < m) (field : Field m) where
       go : Dec (x % m ≡ 0) → (x % m ≡ 0) ⊎ (y % m ≡ 0)
       go (yes z) = inl z
       go (no h) = inr (cancel x y 0 h (e ∙ sym (zero-mod m) ∙ ap (λ (z : ℕ). z % m) (sym (mul-zero x))) ∙ zero-mod m)
+
+  -- a multiple m·c of m leaves only 1 for b in a·b = m, since c·b = 1
+  other : (a b : ℕ) → a * b ≡ m → a % m ≡ 0 → b ≡ 1
+  other a b e z =
+      let (c, q) = multiple-of-zero m a z in
+      let one : c * b ≡ 1 = eq-of-mul-eq-mul-left m (omega arith) (c * b) 1 (omega (arith, ap (λ (x : ℕ). x * b) q)) in
+      eq-one-of-dvd-one (rw one at (dvd-mul-left b c))
+
+  pub prime : (a b : ℕ) → a * b ≡ m → (a ≡ 1) ⊎ (b ≡ 1)
+  prime a b e =
+      ⊎-elim (λ z. inr (other a b e z)) (λ z. inl (other b a (mul-comm b a ∙ e) z))
+      (no-zero-divisors a b (ap (λ (x : ℕ). x % m) e ∙ mod-self m))

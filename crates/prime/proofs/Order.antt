@@ -37,15 +37,15 @@ module _ (m g : ℕ) where
   last : (n : ℕ) → T (pratt m g n []) → (suc n ≡ m) × (power m g n ≡ 1)
   unfolding pratt
   last n t =
-      let (size, one) = and-yes (eqb (suc n) m) (eqb (fast m 65 g n) 1) t in
-      (eqb→eq (suc n) m size, sym (fast-power m 65 g n) ∙ eqb→eq (fast m 65 g n) 1 one)
+      let (size, one) = and-yes (eqb (suc n) m) (eqb (fast m g n) 1) t in
+      (eqb→eq (suc n) m size, sym (fast-power m g n) ∙ eqb→eq (fast m g n) 1 one)
 
   next : (n q : ℕ) (qs : List ℕ) → T (pratt m g n (q ∷ qs)) → (power m g (n * product qs) ≢ 1) × T (pratt m g (n * q) qs)
   unfolding pratt
   next n q qs t =
-      let x : ℕ = fast m 65 g (n * product qs) in
+      let x : ℕ = fast m g (n * product qs) in
       let (not-one, rest) = and-yes (not (eqb x 1)) (pratt m g (n * q) qs) t in
-      (λ e. T-not (eqb x 1) not-one (rw (fast-power m 65 g (n * product qs), e) tt), rest)
+      (λ e. T-not (eqb x 1) not-one (rw (fast-power m g (n * product qs), e) tt), rest)
 
   -- m is N + 1, and g^N = 1
   pub top : (n : ℕ) (qs : List ℕ) → T (pratt m g n qs) → (suc (n * product qs) ≡ m) × (power m g (n * product qs) ≡ 1)

@@ -5,7 +5,7 @@ use native.Mathlib.Omega.{arith}
 use native.Mathlib.Nat.{pow-suc, pow-zero, mod-mod, mul-comm, mul-suc, one-mul, mul-one, mod-add-div, mod-eq-of-lt, mod-lt, lt-irrefl}
 use native.Mathlib.Numerals.{unary-clauses}
 use lib.Pow.{pow-add}
-use Rattle.prime.specs.Powers.{power, power-zero, power-suc, fast}
+use Rattle.prime.specs.Powers.{power, power-zero, power-suc, squaring, fast}
 use Rattle.prime.proofs.Congruence.{mul-same, mul-same-right, mul-mod, zero-times}
 
 -- ---- of whole numbers
@@ -66,12 +66,16 @@ halved m x e =
     rw (power-same m (x * x % m) (x * x) (e / 2) (mod-mod (x * x) m), power-is m (x * x) (e / 2), power-is m x e)
     (mul-same-right m (x ^ (e % 2)) _ _ (mod-mod ((x * x) ^ (e / 2)) m) ∙ ap (λ (y : ℕ). y % m) (pow-halved x e))
 
--- the fast form is the same, however far it squares
-pub fast-power : (m k x e : ℕ) → fast m k x e ≡ power m x e
+squaring-power : (m k x e : ℕ) → squaring m k x e ≡ power m x e
+unfolding squaring
+squaring-power m zero x e = refl
+squaring-power m (suc k) x zero = sym (power-zero m x)
+squaring-power m (suc k) x (suc e) = rw (squaring-power m k (x * x % m) (suc e / 2)) (halved m x (suc e))
+
+-- the fast form is the same
+pub fast-power : (m x e : ℕ) → fast m x e ≡ power m x e
 unfolding fast
-fast-power m zero x e = refl
-fast-power m (suc k) x zero = sym (power-zero m x)
-fast-power m (suc k) x (suc e) = rw (fast-power m k (x * x % m) (suc e / 2)) (halved m x (suc e))
+fast-power m x e = squaring-power m 65 x e
 
 -- ---- powers of 0, and powers that are 1
 

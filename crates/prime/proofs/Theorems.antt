@@ -23,8 +23,8 @@ use Rattle.prime.proofs.Prime.{field, generates}
 pub power-is : (x e : ℕ) → power P x e ≡ x ^ e % P
 power-is = powers.power-is P
 
--- The fast form is the same, however far it squares.
-pub fast-power : (k x e : ℕ) → fast P k x e ≡ power P x e
+-- The fast form is the same.
+pub fast-power : (x e : ℕ) → fast P x e ≡ power P x e
 fast-power = powers.fast-power P
 
 -- Exponents add.
@@ -56,6 +56,10 @@ no-zero-divisors = inverses.no-zero-divisors P (lit< tt) field
 -- A non-zero factor cancels.
 pub cancel : (x y z : ℕ) → x % P ≢ 0 → x * y % P ≡ x * z % P → y % P ≡ z % P
 cancel = inverses.cancel P (lit< tt) field
+
+-- P is a prime: it is no product but that of 1 and itself.
+pub prime : (a b : ℕ) → a * b ≡ P → (a ≡ 1) ⊎ (b ≡ 1)
+prime = inverses.prime P (lit< tt) field
 
 -- ---- The generator 7
 

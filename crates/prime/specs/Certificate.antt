@@ -10,8 +10,8 @@ use Rattle.prime.specs.Powers.{fast}
 -- With N the product of n and qs: m is N + 1, and modulo m, g^N is 1 and g^(N / q) is not 1 for any q of qs.
 unfoldable pub pratt : ℕ → ℕ → ℕ → List ℕ → Bool
 unfolding fast
-pratt m g n [] = eqb (suc n) m && eqb (fast m 65 g n) 1
-pratt m g n (q ∷ qs) = not (eqb (fast m 65 g (n * product qs)) 1) && pratt m g (n * q) qs
+pratt m g n [] = eqb (suc n) m && eqb (fast m g n) 1
+pratt m g n (q ∷ qs) = not (eqb (fast m g (n * product qs)) 1) && pratt m g (n * q) qs
 
 -- The odd prime factors of P - 1.
 abbrev pub oddFactors : List ℕ

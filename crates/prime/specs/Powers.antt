@@ -17,8 +17,13 @@ pub power-suc : (m x e : ℕ) → power m x (suc e) ≡ x * power m x e % m
 unfolding power
 power-suc m x e = refl
 
--- The same by squaring, which the checker computes: right for every k, and quick where k is above the number of e's bits.
-unfoldable pub fast : ℕ → ℕ → ℕ → ℕ → ℕ
-fast m zero x e = power m x e
-fast m (suc k) x zero = 1 % m
-fast m (suc k) x (suc e) = x ^ (suc e % 2) * fast m k (x * x % m) (suc e / 2) % m
+-- The same by squaring at most k times: right for every k, and quick where k is above the number of e's bits.
+unfoldable pub squaring : ℕ → ℕ → ℕ → ℕ → ℕ
+squaring m zero x e = power m x e
+squaring m (suc k) x zero = 1 % m
+squaring m (suc k) x (suc e) = x ^ (suc e % 2) * squaring m k (x * x % m) (suc e / 2) % m
+
+-- The fast form, which the checker computes: no exponent here has more than 64 bits.
+unfoldable pub fast : ℕ → ℕ → ℕ → ℕ
+unfolding squaring
+fast m x e = squaring m 65 x e

@@ -12,7 +12,7 @@ Multiple n d = (c : ℕ) × (d ≡ n * c)
 abbrev pub Inverse : ℕ → ℕ → Type 0
 Inverse m x = (u : ℕ) × (v : ℕ) × (x * u ≡ 1 + m * v)
 
--- Each number is a multiple of m or has an inverse modulo m. Of an m above 1 this says that it is a prime.
+-- Each number is a multiple of m or has an inverse modulo m. An m above 1 is then a prime (`prime` of proofs/Inverses.antt).
 abbrev pub Field : ℕ → Type 0
 Field m = (x : ℕ) → Multiple m x ⊎ Inverse m x
 
