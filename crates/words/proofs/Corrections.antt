@@ -1,0 +1,64 @@
+-- The two corrections by P, "less P if 2^64 or more" and "plus P if negative", and the code that makes them by sums and differences
+-- that wrap: 2^32 - 1 more, wrapping, is P less.
+use mathlib.Core.Path.{_≡_, refl, sym, _∙_}
+use Prim.Native.Nat.{ℕ, _+_, _-_, _*_, _%_, _^_, _<_, _≤_}
+use native.Mathlib.Omega.{arith}
+use borrow.Author.Tests.{lt-ltb, le-ltb, le-leb, lt-leb}
+use Rattle.prime.specs.Modulus.{P}
+use Rattle.words.specs.Words.{less, plus, addWord, subWord}
+
+pub less-none : (n : ℕ) → n < 2 ^ 64 → less n ≡ n
+less-none n h = simp (lt-ltb n (2 ^ 64) h)
+
+pub less-one : (n : ℕ) → 2 ^ 64 ≤ n → less n ≡ n - P
+less-one n h = simp (le-ltb n (2 ^ 64) h)
+
+pub plus-none : (a b : ℕ) → b ≤ a → plus a b ≡ a - b
+plus-none a b h = simp (le-leb b a h)
+
+pub plus-one : (a b : ℕ) → a < b → plus a b ≡ a + P - b
+plus-one a b h = simp (lt-leb b a h)
+
+module _ (x y s : ℕ) (h : x < 2 ^ 64) (k : y < 2 ^ 64) (e : s ≡ (x + y) % 2 ^ 64) where
+  -- a sum that wraps at most once
+  pub sum-none : x ≤ s → s ≡ less (x + y)
+  sum-none l = rw (less-none (x + y) (omega arith)) (omega arith)
+
+  pub sum-one : s < x → s + (2 ^ 32 - 1) ≡ less (x + y)
+  sum-one l = rw (less-one (x + y) (omega arith)) (omega arith)
+
+  -- `add`, whose sum wraps not at all, once or twice
+  pub add-none : x ≤ s → s ≡ addWord x y
+  unfolding addWord
+  add-none l = rw (← sum-none l, less-none s (omega arith))
+
+  module _ (o : ℕ) (f : o ≡ (s + (2 ^ 32 - 1)) % 2 ^ 64) (l : s < x) where
+    pub add-one : s ≤ o → o ≡ addWord x y
+    unfolding addWord
+    add-one m = rw (← sum-one l, less-none (s + (2 ^ 32 - 1)) (omega arith)) (omega arith)
+
+    pub add-two : o < s → o + (2 ^ 32 - 1) ≡ addWord x y
+    unfolding addWord
+    add-two m = rw (← sum-one l, less-one (s + (2 ^ 32 - 1)) (omega arith)) (omega arith)
+
+module _ (x y d : ℕ) (h : x < 2 ^ 64) (k : y < 2 ^ 64) (i : d < 2 ^ 64) (e : (d + y) % 2 ^ 64 ≡ x) where
+  -- a difference that wraps at most once
+  pub difference-none : y ≤ x → d ≡ plus x y
+  difference-none l = rw (le-leb y x l) (omega arith)
+
+  pub difference-one : x < y → d - (2 ^ 32 - 1) ≡ plus x y
+  difference-one l = rw (lt-leb y x l) (omega arith)
+
+  -- `sub`, whose difference wraps not at all, once or twice
+  pub sub-none : y ≤ x → d ≡ subWord x y
+  unfolding subWord
+  sub-none l = rw (le-leb y x l) (omega arith)
+
+  module _ (o : ℕ) (j : o < 2 ^ 64) (f : (o + (2 ^ 32 - 1)) % 2 ^ 64 ≡ d) (l : x < y) where
+    pub sub-one : 2 ^ 32 - 1 ≤ d → o ≡ subWord x y
+    unfolding subWord
+    sub-one m = rw (lt-leb y x l, le-leb y (x + P) (omega arith)) (omega arith)
+
+    pub sub-two : d < 2 ^ 32 - 1 → o - (2 ^ 32 - 1) ≡ subWord x y
+    unfolding subWord
+    sub-two m = rw (lt-leb y x l, lt-leb y (x + P) (omega arith)) (omega arith)

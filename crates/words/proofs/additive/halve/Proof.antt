@@ -1,0 +1,19 @@
+-- The half of a word, by its rule for even and odd words.
+use native.Mathlib.Omega.{arith}
+use borrow.Author.Needs.{needs}
+use borrow.Author.Tests.{eq-eqb, ne-eqb}
+use Rattle.words.specs.Words.{halveWord}
+use Rattle.words.proofs.Laws.{held, halve-stands}
+use Rattle.words.proofs.additive.halve.Statement.{statement}
+use Rattle.words.proofs.additive.halve.Tie as tie
+
+returns : tie.Need-returns
+unfolding halveWord
+returns c = held (simp (eq-eqb _ _ (c .if1 .taken))) (halve-stands _ (c .before .fits .x .fits))
+
+returns-2 : tie.Need-returns-2
+unfolding halveWord
+returns-2 c = held (simp (ne-eqb _ _ (c .if1 .left)) (omega arith)) (halve-stands _ (c .before .fits .x .fits))
+
+pub halve-spec : {M : Type 1} → statement M
+halve-spec = tie.close (tie.spec (λ c. search needs) returns returns-2)

@@ -1,0 +1,20 @@
+-- P less the canonical form.
+use borrow.Author.Needs.{needs}
+use native.Mathlib.Omega.{arith}
+use mathlib.Core.Path.{ap}
+use Prim.Native.Nat.{ℕ, _-_}
+use Rattle.prime.specs.Modulus.{P}
+use Rattle.words.specs.Words.{negWord}
+use Rattle.words.proofs.Laws.{held, neg-stands, canonical-is}
+use Rattle.words.proofs.additive.neg.Statement.{statement}
+use Rattle.words.proofs.additive.neg.Tie as tie
+
+sub-result : tie.Need-sub-result
+sub-result c = omega (arith, canonical-is _ (c .before .fits .x .fits))
+
+returns : tie.Need-returns
+unfolding negWord
+returns c = held (ap (λ (n : ℕ). P - n) (c .as-canonical-u64 .ensures .word)) (neg-stands _ (search needs))
+
+pub neg-spec : {M : Type 1} → statement M
+neg-spec = tie.close (tie.spec (λ c κs. search needs) sub-result returns)

@@ -1,0 +1,12 @@
+-- The product is that of the halves.
+use borrow.Author.Needs.{needs}
+use Rattle.words.proofs.Products.{by-halves}
+use Rattle.words.proofs.product.mul_wide.Statement.{statement}
+use Rattle.words.proofs.product.mul_wide.Tie as tie
+
+returns : tie.Need-returns
+returns c = cc (by-halves (c .before .before .before .before .before .before .before .before .before .args .x)
+    (c .before .before .before .before .before .before .before .before .before .args .y))
+
+pub mul-wide-spec : {M : Type 1} → statement M
+mul-wide-spec = tie.close (tie.spec (λ c κs. search needs) (λ c κs. search needs) (λ c κs. search needs) (λ c κs. search needs) (λ c κs. search needs) (λ c κs. search needs) (λ c κs. search needs) (λ c κs. search needs) (λ c κs. search needs) returns)

@@ -1,0 +1,33 @@
+-- The parts have room, and the code is the rule.
+use borrow.Author.Needs.{needs}
+use native.Mathlib.Omega.{arith}
+use Rattle.words.specs.Words.{splitWord}
+use Rattle.words.proofs.PowersOfTwo.{low-room, high-room, taken-room}
+use Rattle.words.proofs.shifts.div_by_split.Statement.{statement}
+use Rattle.words.proofs.shifts.div_by_split.Tie as tie
+
+shift-left-requires : tie.Need-shift-left-requires
+shift-left-requires c κs = (search needs, omega (arith, low-room _ (search needs) (search needs) 32 _ (search needs) (c .before .low-bits .ensures .1)))
+
+add-a : tie.Need-add-a
+add-a c =
+    let lo = c .before .before .low-bits in
+    let x = c .before .before .before in
+    omega (arith, low-room _ (search needs) (search needs) 32 _ (search needs) (lo .ensures .1), high-room _ (x .pre .0) (x .pre .1) _ (x .fits .x .fits))
+
+shift-left-requires-2 : tie.Need-shift-left-requires-2
+shift-left-requires-2 c κs =
+    (search needs, omega (arith, taken-room _ (search needs) (search needs) _ (c .before .before .low-bits .ensures .1)))
+
+sub-once-requires : tie.Need-sub-once-requires
+sub-once-requires c κs = omega (arith, taken-room _ (search needs) (search needs) _ (c .before .before .before .low-bits .ensures .1))
+
+returns : tie.Need-returns
+unfolding splitWord
+returns c = cc
+
+pub div-by-split-spec : {M : Type 1} → statement M
+div-by-split-spec =
+    tie.close
+    (tie.spec (λ c κs. search needs) (λ c κs. search needs) (λ c. search needs) shift-left-requires add-a (λ c. search needs)
+    shift-left-requires-2 sub-once-requires returns)

@@ -1,0 +1,5 @@
+-- What the contracts of this crate speak of.
+pub mod Words
+pub mod Orders
+pub mod Answers
+pub mod Promises

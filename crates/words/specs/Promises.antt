@@ -1,0 +1,22 @@
+-- The promises of the contracts, each under its name.
+use mathlib.Core.Path.{_≡_}
+use Prim.Native.Nat.{ℕ, _%_}
+use Rattle.prime.specs.Modulus.{P}
+use Rattle.words.specs.declared.answers.Answer.{Answer}
+use Rattle.words.specs.Answers.{refusalOf, wordOf}
+
+-- The word r is w, and stands for the element e.
+pub record Held (w e r : ℕ) : Type 0 where
+  pub word : r ≡ w
+  pub element : r % P ≡ e
+
+-- What is seen, r, is c of the canonical forms, and e of the elements.
+pub record Seen {A : Type 0} (c e r : A) : Type 0 where
+  pub canonical : r ≡ c
+  pub element : r ≡ e
+
+-- The refusal of r has the number n (0 for none), and its word is w, which stands for the element e.
+pub record Answered (n w e : ℕ) (r : Answer) : Type 0 where
+  pub refusal : refusalOf r ≡ n
+  pub word : wordOf r ≡ w
+  pub element : wordOf r % P ≡ e

@@ -1,0 +1,86 @@
+// Sums, differences, negatives and halves. Ports `Add`, `Sub`, `Neg` and `halve`, and the two corrections that `reduce128` and the shift down
+// share with them.
+ghost use Prim.Native.Nat.{_+_, _-_, _*_, _%_, _^_, _<_, _≤_};
+ghost use mathlib.Core.Path.{_≡_};
+ghost use Rattle.prime.specs.Modulus.{P};
+ghost use Rattle.words.specs.Words.{less, plus, addWord, subWord, negWord, half, halveWord};
+ghost use Rattle.words.specs.Promises.{Held};
+use super::NEG_ORDER;
+use super::ORDER_U64;
+use super::canonical::as_canonical_u64;
+use std::num::wrapping_add_u64;
+use std::num::wrapping_sub_u64;
+
+// x + y, less P the fewest times (0, 1 or 2) that bring it below 2^64.
+pub fn add(x: u64, y: u64) -> u64
+    ensures { λ r. ⌜ Held (addWord x y) ((x + y) % P) r ⌝ }
+{
+    let sum = wrapping_add_u64(x, y);
+    if x <= sum {
+        return sum;
+    }
+    let once = wrapping_add_u64(sum, NEG_ORDER);
+    if sum <= once {
+        return once;
+    }
+    once + NEG_ORDER
+}
+
+// x - y, plus P the fewest times (0, 1 or 2) that bring it to 0 or more.
+pub fn sub(x: u64, y: u64) -> u64
+    ensures { λ r. ⌜ Held (subWord x y) ((x + (P - 1) * y) % P) r ⌝ }
+{
+    let difference = wrapping_sub_u64(x, y);
+    if y <= x {
+        return difference;
+    }
+    let once = wrapping_sub_u64(difference, NEG_ORDER);
+    if NEG_ORDER <= difference {
+        return once;
+    }
+    once - NEG_ORDER
+}
+
+// P minus canonical x, so zero gives P.
+pub fn neg(x: u64) -> u64
+    ensures { λ r. ⌜ Held (negWord x) ((P - 1) * x % P) r ⌝ }
+{
+    ORDER_U64 - as_canonical_u64(x)
+}
+
+// x / 2 if the word is even, else (x + P) / 2.
+pub fn halve(x: u64) -> u64
+    ensures { λ r. ⌜ Held (halveWord x) (x * half % P) r ⌝ }
+{
+    // Written out so that x + P, which may pass 2^64, is never made: (x + P) / 2 = x / 2 + (P + 1) / 2 for an odd x.
+    if x % 2 == 0 {
+        x / 2
+    } else {
+        x / 2 + HALF_P_PLUS_1
+    }
+}
+
+// (P + 1) / 2, the inverse of 2.
+const HALF_P_PLUS_1: u64 = 0x7FFF_FFFF_8000_0001;
+
+// x + y, less P if it is 2^64 or more. One correction is enough only where x + y < 2^64 + P.
+pub(crate) fn add_no_canonicalize_trashing_input(x: u64, y: u64) -> u64
+    requires { ⌜ x + y < 2 ^ 64 + P ⌝ }
+    ensures { λ r. ⌜ r ≡ less (x + y) ⌝ }
+{
+    let sum = wrapping_add_u64(x, y);
+    if x <= sum { sum } else { sum + NEG_ORDER }
+}
+
+// x - y, plus P if it is negative. One correction is enough only where y <= x + P.
+pub(crate) fn sub_once(x: u64, y: u64) -> u64
+    requires { ⌜ y ≤ x + P ⌝ }
+    ensures { λ r. ⌜ r ≡ plus x y ⌝ }
+{
+    let difference = wrapping_sub_u64(x, y);
+    if y <= x {
+        difference
+    } else {
+        difference - NEG_ORDER
+    }
+}

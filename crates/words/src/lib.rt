@@ -1,0 +1,30 @@
+// All that works on single words, ported from the scalar part of p3-goldilocks (`src/goldilocks.rs`), in the order of document 01.
+// A word is any u64; it stands for the element x mod P. No operation asks anything of its caller.
+mod additive;
+mod answers;
+mod bits;
+mod canonical;
+mod product;
+mod shifts;
+
+pub use additive::add;
+pub use additive::halve;
+pub use additive::neg;
+pub use additive::sub;
+pub use answers::Answer;
+pub use answers::Refusal;
+pub use canonical::Ordering;
+pub use canonical::as_canonical_u64;
+pub use canonical::cmp;
+pub use canonical::eq;
+pub use canonical::is_zero;
+pub use canonical::value;
+pub use product::mul;
+pub use product::reduce128;
+pub use product::square;
+
+// The Goldilocks prime P, 2^64 - 2^32 + 1.
+pub(crate) const ORDER_U64: u64 = 0xFFFF_FFFF_0000_0001;
+
+// 2^64 - P, which is 2^32 - 1: to add it, wrapping, is to take P away.
+pub(crate) const NEG_ORDER: u64 = 0xFFFF_FFFF;
