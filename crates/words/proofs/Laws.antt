@@ -1,13 +1,18 @@
 -- What those above may know of the words that are answered: each is below 2^64, and modulo P it is what arithmetic says.
 use mathlib.Core.Path.{_≡_, refl, sym, ap, _∙_}
+use mathlib.Core.Bool.{Bool, true, false, true≢false, false≢true}
 use Prim.Native.Nat.{ℕ, _+_, _-_, _*_, _/_, _%_, _^_, _<_, _≤_}
 use native.Mathlib.Omega.{arith}
-use native.Mathlib.Nat.{mod-add-div, mod-lt, mod-mod}
+use native.Mathlib.Nat.{mod-add-div, mod-lt, mod-le, mod-mod, mod-eq-of-lt, lt-of-le-of-lt}
+use lib.Dec.{lit<}
 use lib.Pow.{pow-pos, shr-lt}
 use Rattle.prime.specs.Modulus.{P}
 use Rattle.prime.proofs.Congruence.{same, add-same, mul-same-right}
-use Rattle.words.specs.Words.{canonical, less, plus, addWord, subWord, negWord, reduceWord, mulWord, halveWord, half, limbs}
-use Rattle.words.specs.Promises.{Held, Seen}
+use Rattle.words.specs.Words.{canonical, less, plus, addWord, subWord, negWord, reduceWord, mulWord, halveWord, half, limbs, fromU128Word}
+use Rattle.words.specs.declared.answers.Refusal.{Refusal}
+use Rattle.words.specs.declared.answers.Answer.the-variants.{Word, Refused}
+use Rattle.words.specs.Answers.{number}
+use Rattle.words.specs.Promises.{Held, Seen, Answered}
 use Rattle.words.proofs.Products.{product-below}
 use Rattle.words.proofs.Choice.{by-lt, by-le, by-eq}
 
@@ -61,13 +66,15 @@ sub-stands x y h k = by-le (Stands ((x + (P - 1) * y) % P)) y x
     again : {w : ℕ} → Stands ((x + P + (P - 1) * y) % P) w → Stands ((x + (P - 1) * y) % P) w
     again s = record { below = s .below; element = s .element ∙ same P _ _ 0 1 (omega arith) }
 
+-- P less a number is its negative
+pub opposite : (n : ℕ) → n ≤ P → (P - n) % P ≡ (P - 1) * n % P
+opposite n h = same P (P - n) ((P - 1) * n) n 1 (omega arith)
+
 pub neg-stands : (x : ℕ) → x < 2 ^ 64 → Stands ((P - 1) * x % P) (negWord x)
 unfolding negWord
 neg-stands x h = record {
   below = omega arith;
-  element =
-      rw (canonical-is x h)
-      (same P (P - x % P) ((P - 1) * (x % P)) (x % P) 1 (omega arith) ∙ mul-same-right P (P - 1) (x % P) x (mod-mod x P));
+  element = rw (canonical-is x h) (opposite (x % P) (omega arith) ∙ mul-same-right P (P - 1) (x % P) x (mod-mod x P));
 }
 
 -- a half, by the inverse h of 2
@@ -105,3 +112,26 @@ unfolding limbs mulWord
 mul-stands x y h k =
     rw (mod-add-div (x * y) (2 ^ 64))
     at (reduce-stands (x * y % 2 ^ 64) (x * y / 2 ^ 64) (mod-lt (x * y) (pow-pos 64)) (shr-lt 64 64 (product-below 64 h k)))
+
+pub from-u128-stands : (lo hi : ℕ) → lo < 2 ^ 64 → hi < 2 ^ 64 → Stands (limbs lo hi % P) (fromU128Word lo hi)
+unfolding fromU128Word
+from-u128-stands lo hi h k =
+    let r : Stands (limbs lo hi % P) (reduceWord lo hi) = reduce-stands lo hi h k in
+    let s : Stands (reduceWord lo hi % P) (canonical (reduceWord lo hi)) = canonical-stands (reduceWord lo hi) (r .below) in
+    record { below = s .below; element = s .element ∙ r .element }
+
+-- an answer that is given, and one that is refused
+pub granted : (t : Bool) {n w e v : ℕ} → t ≡ true → v ≡ w → Stands e w → Answered t n w e (Word v)
+granted true {n} {w} {e} {v} h f s = record { refusal = refl; word = f; element = ap (λ (m : ℕ). m % P) f ∙ s .element }
+granted false h f s = absurd (false≢true h)
+
+pub refused : (t : Bool) {w e : ℕ} (r : Refusal) → t ≡ false → Answered t (number r) w e (Refused r)
+refused true r h = absurd (true≢false h)
+refused false r h = record { refusal = refl; word = refl; element = refl }
+
+pub word-stands : (x : ℕ) → x < 2 ^ 64 → Stands (x % P) x
+word-stands x h = record { below = h; element = refl }
+
+pub slot-stands : (x k : ℕ) → x < 2 ^ 64 → Stands (x % P % 2 ^ k) (canonical x % 2 ^ k)
+slot-stands x k h = rw (canonical-is x h)
+    (record { below = lt-of-le-of-lt (mod-le (x % P) (2 ^ k)) (omega arith); element = mod-eq-of-lt (lt-of-le-of-lt (mod-le (x % P) (2 ^ k)) (mod-lt x (lit< tt))) })

@@ -4,4 +4,5 @@ pub mod Corrections
 pub mod Products
 pub mod Tables
 pub mod Laws
+pub mod Signed
 pub mod PowersOfTwo

@@ -1,5 +1,6 @@
 -- The promises of the contracts, each under its name.
 use mathlib.Core.Path.{_≡_}
+use mathlib.Core.Bool.{Bool, cond}
 use Prim.Native.Nat.{ℕ, _%_}
 use Rattle.prime.specs.Modulus.{P}
 use Rattle.words.specs.declared.answers.Answer.{Answer}
@@ -15,8 +16,8 @@ pub record Seen {A : Type 0} (c e r : A) : Type 0 where
   pub canonical : r ≡ c
   pub element : r ≡ e
 
--- The refusal of r has the number n (0 for none), and its word is w, which stands for the element e.
-pub record Answered (n w e : ℕ) (r : Answer) : Type 0 where
-  pub refusal : refusalOf r ≡ n
-  pub word : wordOf r ≡ w
-  pub element : wordOf r % P ≡ e
+-- Where the test t holds, the word w, which stands for the element e; elsewhere the refusal with the number n, and the word 0.
+pub record Answered (t : Bool) (n w e : ℕ) (r : Answer) : Type 0 where
+  pub refusal : refusalOf r ≡ cond t 0 n
+  pub word : wordOf r ≡ cond t w 0
+  pub element : wordOf r % P ≡ cond t e 0

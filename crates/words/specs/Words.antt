@@ -1,5 +1,5 @@
 -- 01, "Held words, rule by rule": the word that each operation answers, over ℕ, by tests and natural subtraction.
-use mathlib.Core.Bool.{cond}
+use mathlib.Core.Bool.{Bool, cond}
 use Prim.Native.Nat.{ℕ, _+_, _-_, _*_, _/_, _%_, _^_, _≤_}
 use lib.Dec.{eqb, leb, ltb}
 use lib.IntN.{ℤ, pos, negsuc}
@@ -54,10 +54,20 @@ half = (P + 1) / 2
 unfoldable pub halveWord : ℕ → ℕ
 halveWord x = cond (eqb (x % 2) 0) (x / 2) ((x + P) / 2)
 
--- 01, "from i64".
+-- 01, "from i64": n, or P + n where it is negative.
 abbrev pub fromI64Word : ℤ → ℕ
 fromI64Word (pos n) = n
 fromI64Word (negsuc n) = P - (n + 1)
+
+-- The remainder of a signed number by P; -1 is P - 1.
+abbrev pub residue : ℤ → ℕ
+residue (pos n) = n % P
+residue (negsuc n) = (P - 1) * (n + 1) % P
+
+-- 01: the checked i64 reader takes "exactly -(2^63-2^31) to 2^63-2^31, both ends included".
+abbrev pub inRange : ℤ → Bool
+inRange (pos n) = leb n (2 ^ 63 - 2 ^ 31)
+inRange (negsuc n) = leb (n + 1) (2 ^ 63 - 2 ^ 31)
 
 -- 01, "from two limbs".
 unfoldable pub fromU128Word : ℕ → ℕ → ℕ

@@ -4,8 +4,10 @@ mod additive;
 mod answers;
 mod bits;
 mod canonical;
+mod conversions;
 mod product;
 mod shifts;
+mod slots;
 
 pub use additive::add;
 pub use additive::halve;

@@ -1,0 +1,20 @@
+// Slots of the ring: not in the Rust, added by document 01.
+ghost use Prim.Native.Nat.{_%_, _^_};
+ghost use lib.Dec.{leb};
+ghost use Rattle.prime.specs.Modulus.{P};
+ghost use Rattle.words.specs.Words.{canonical};
+ghost use Rattle.words.specs.Promises.{Answered};
+use super::answers::Answer;
+use super::answers::Refusal;
+use super::bits::low_bits;
+use super::canonical::as_canonical_u64;
+
+// The low k bits of the canonical form, for k up to 32.
+pub fn slot(x: u64, k: u64) -> Answer
+    ensures { λ r. ⌜ Answered (leb k 32) 7 (canonical x % 2 ^ k) (x % P % 2 ^ k) r ⌝ }
+{
+    if 32 < k {
+        return Answer::Refused(Refusal::Above32);
+    }
+    Answer::Word(low_bits(as_canonical_u64(x), k))
+}
