@@ -1,30 +1,38 @@
--- The two corrections by P, "less P if 2^64 or more" and "plus P if negative", and the code that makes them by sums and differences
--- that wrap: 2^32 - 1 more, wrapping, is P less.
-use mathlib.Core.Path.{_≡_, refl, sym, _∙_}
+-- The two corrections by P, "less P if 2^64 or more" and "plus P if negative": what they do modulo P, and the code that makes them by sums and
+-- differences that wrap. 2^32 - 1 more, wrapping, is P less.
+use mathlib.Core.Path.{_≡_, refl}
 use Prim.Native.Nat.{ℕ, _+_, _-_, _*_, _%_, _^_, _<_, _≤_}
 use native.Mathlib.Omega.{arith}
 use borrow.Author.Tests.{lt-ltb, le-ltb, le-leb, lt-leb}
 use Rattle.prime.specs.Modulus.{P}
-use Rattle.words.specs.Words.{less, plus, addWord, subWord}
+use Rattle.prime.proofs.Congruence.{same}
+use Rattle.words.specs.Words.{lessP, plusP, addWord, subWord}
+use Rattle.words.proofs.Choice.{by-lt, by-le}
+use Rattle.words.proofs.Stands.{Stands}
 
-pub less-none : (n : ℕ) → n < 2 ^ 64 → less n ≡ n
+less-none : (n : ℕ) → n < 2 ^ 64 → lessP n ≡ n
 less-none n h = simp (lt-ltb n (2 ^ 64) h)
 
-pub less-one : (n : ℕ) → 2 ^ 64 ≤ n → less n ≡ n - P
+less-one : (n : ℕ) → 2 ^ 64 ≤ n → lessP n ≡ n - P
 less-one n h = simp (le-ltb n (2 ^ 64) h)
 
-pub plus-none : (a b : ℕ) → b ≤ a → plus a b ≡ a - b
-plus-none a b h = simp (le-leb b a h)
+pub less-below : (k n : ℕ) → n < 2 ^ 64 + k + P → lessP n < 2 ^ 64 + k
+less-below k n h = by-lt (λ (m : ℕ). m < 2 ^ 64 + k) n (2 ^ 64) (λ t. omega arith) (λ t. omega arith)
 
-pub plus-one : (a b : ℕ) → a < b → plus a b ≡ a + P - b
-plus-one a b h = simp (lt-leb b a h)
+pub less-element : (n : ℕ) → lessP n % P ≡ n % P
+less-element n = by-lt (λ (m : ℕ). m % P ≡ n % P) n (2 ^ 64) (λ t. refl) (λ t. omega arith)
+
+pub plus-stands : (a b : ℕ) → a < 2 ^ 64 + b → b ≤ a + P → Stands ((a + (P - 1) * b) % P) (plusP a b)
+plus-stands a b h k = by-le (Stands ((a + (P - 1) * b) % P)) b a
+    (λ t. record { below = omega arith; element = same P _ _ b 0 (omega arith) })
+    (λ t. record { below = omega arith; element = same P _ _ b 1 (omega arith) })
 
 module _ (x y s : ℕ) (h : x < 2 ^ 64) (k : y < 2 ^ 64) (e : s ≡ (x + y) % 2 ^ 64) where
   -- a sum that wraps at most once
-  pub sum-none : x ≤ s → s ≡ less (x + y)
+  pub sum-none : x ≤ s → s ≡ lessP (x + y)
   sum-none l = rw (less-none (x + y) (omega arith)) (omega arith)
 
-  pub sum-one : s < x → s + (2 ^ 32 - 1) ≡ less (x + y)
+  pub sum-one : s < x → s + (2 ^ 32 - 1) ≡ lessP (x + y)
   sum-one l = rw (less-one (x + y) (omega arith)) (omega arith)
 
   -- `add`, whose sum wraps not at all, once or twice
@@ -43,10 +51,10 @@ module _ (x y s : ℕ) (h : x < 2 ^ 64) (k : y < 2 ^ 64) (e : s ≡ (x + y) % 2 
 
 module _ (x y d : ℕ) (h : x < 2 ^ 64) (k : y < 2 ^ 64) (i : d < 2 ^ 64) (e : (d + y) % 2 ^ 64 ≡ x) where
   -- a difference that wraps at most once
-  pub difference-none : y ≤ x → d ≡ plus x y
+  pub difference-none : y ≤ x → d ≡ plusP x y
   difference-none l = rw (le-leb y x l) (omega arith)
 
-  pub difference-one : x < y → d - (2 ^ 32 - 1) ≡ plus x y
+  pub difference-one : x < y → d - (2 ^ 32 - 1) ≡ plusP x y
   difference-one l = rw (lt-leb y x l) (omega arith)
 
   -- `sub`, whose difference wraps not at all, once or twice

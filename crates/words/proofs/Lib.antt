@@ -1,8 +1,10 @@
--- Laws of the definitions, for this crate's proofs and for those above.
+-- Laws of the definitions. Those above cite Stands, Laws, PowersOfTwo and Signed; the rest serves the proofs here.
 pub mod Choice
+pub mod Stands
 pub mod Corrections
 pub mod Products
 pub mod Tables
 pub mod Laws
-pub mod Signed
+pub mod Arms
 pub mod PowersOfTwo
+pub mod Signed

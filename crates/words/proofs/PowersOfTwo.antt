@@ -1,39 +1,55 @@
--- The shifts by powers of two, up and down: 2^96 is -1 and 2^192 is 1 modulo P, and a half is the inverse of 2.
-use mathlib.Core.Path.{_≡_, refl, sym, ap, _∙_, subst}
+-- Shifts by powers of two, up and down. Modulo P, 2^96 is -1 and 2^192 is 1, and a half is the inverse of 2.
+use mathlib.Core.Path.{_≡_, refl, sym, ap, _∙_}
 use Prim.Native.Nat.{ℕ, _+_, _-_, _*_, _/_, _%_, _^_, _<_, _≤_}
+use native.Mathlib.Nat.{mod-add-div, mod-lt, mod-mod, mul-one, mul-comm, mul-assoc, mul-le-mul-right, lt-of-lt-of-le}
 use native.Mathlib.Omega.{arith}
-use native.Mathlib.Nat.{mod-add-div, mod-lt, mod-mod, mod-eq-of-lt, mul-one, mul-assoc, mul-le-mul-right, lt-of-lt-of-le}
-use borrow.Author.Tests.{lt-ltb, le-ltb, le-leb, lt-leb, eq-eqb, ne-eqb}
 use lib.Dec.{lit<}
 use lib.Pow.{pow-add, pow-mono, pow-pos, shr-lt, split}
 use Rattle.prime.specs.Modulus.{P}
-use Rattle.prime.specs.Powers.{power, power-zero, power-suc}
-use Rattle.prime.proofs.Congruence.{same, add-same, mul-same-left, mul-same-right}
+use Rattle.prime.specs.Powers.{power}
+use Rattle.prime.proofs.Congruence.{same, mul-same-left, mul-same-right}
 use Rattle.prime.proofs.Powers.{power-same, power-of-one, power-times, power-more}
 use Rattle.prime.proofs.Theorems.{power-is, power-add, power-base, two-96, two-192}
-use Rattle.words.specs.Words.{half, entry, addWord, negWord, mulWord, halveWord, upWord, shiftUpWord, splitWord, downWord, shiftDownWord}
+use Rattle.words.specs.Elements.{half}
+use Rattle.words.specs.Words.{entry, negWord, upWord, shiftUpWord, splitWord, downWord, shiftDownWord}
 use Rattle.words.proofs.Choice.{by-lt, by-le, by-eq}
-use Rattle.words.proofs.Laws.{Stands, plus-stands, add-stands, neg-stands, mul-stands, halve-stands}
+use Rattle.words.proofs.Stands.{Stands, itself, to}
+use Rattle.words.proofs.Corrections.{plus-stands}
+use Rattle.words.proofs.Laws.{add-stands, neg-stands, mul-stands, halve-stands}
 
 -- a power whose d-th is 1 goes by the remainder of its exponent by d
 period : (x d e : ℕ) → power P x d ≡ 1 → power P x (e % d) ≡ power P x e
-period x d e h = sym (power-more P x (e % d) (d * (e / d)) (power-times P x d (e / d) (lit< tt) h)) ∙ ap (power P x) (mod-add-div e d)
+period x d e h =
+    sym (power-more P x (e % d) (d * (e / d)) (power-times P x d (e / d) (lit< tt) h)) ∙ ap (power P x) (mod-add-div e d)
 
 two-period : power P 2 192 ≡ 1
 two-period = power-is 2 192 ∙ two-192
 
+half-period : power P half 192 ≡ 1
+half-period = power-is half 192
+
+-- x·a·b is x where a·b is 1
+times-one : (x a b : ℕ) → a * b % P ≡ 1 → x * a * b % P ≡ x % P
+times-one x a b h =
+    ap (λ (n : ℕ). n % P) (mul-assoc x a b) ∙ mul-same-right P x (a * b) 1 h ∙ ap (λ (n : ℕ). n % P) (mul-one x)
+
+halves-undo : (e : ℕ) → power P 2 e * power P half e % P ≡ 1
+halves-undo e = sym (power-base 2 half e) ∙ power-same P (2 * half) 1 e refl ∙ power-of-one P e
+
+-- so what times 2^e is x, is x times the e-th power of a half
+undo : (x e r : ℕ) → r * power P 2 e % P ≡ x % P → r % P ≡ x * power P half e % P
+undo x e r h =
+    sym (times-one r (power P 2 e) (power P half e) (halves-undo e)) ∙ mul-same-left P (r * power P 2 e) x (power P half e) h
+
+-- the shift up
+
 entry-below : (e : ℕ) → entry e < 2 ^ 64
 entry-below e = omega arith
 
--- 2^96 is -1
 past-96 : (e : ℕ) → 96 ≤ e → power P 2 e ≡ (P - 1) * entry (e - 96) % P
 past-96 e h =
     ap (power P 2) (let r : e ≡ 96 + (e - 96) = omega arith in r) ∙ power-add 2 96 (e - 96)
-    ∙ rw (power-is 2 96, two-96, power-is 2 (e - 96)) refl
-
--- the same word, for an element written otherwise
-to : {e f w : ℕ} → e ≡ f → Stands e w → Stands f w
-to h s = record { below = s .below; element = s .element ∙ h }
+    ∙ rw (power-is 2 96, two-96, power-is 2 (e - 96))
 
 negated : (x d w : ℕ) → w % P ≡ (P - 1) * x % P → w * d % P ≡ x * ((P - 1) * d % P) % P
 negated x d w h =
@@ -43,9 +59,9 @@ negated x d w h =
 up-stands : (x e : ℕ) → x < 2 ^ 64 → Stands (x * power P 2 e % P) (upWord x e)
 unfolding upWord
 up-stands x e h =
-    by-eq (Stands (x * power P 2 e % P)) e 0 (λ t. record { below = h; element = rw (t, power-is 2 0, mul-one x) refl })
+    by-eq (Stands (x * power P 2 e % P)) e 0 (λ t. to (rw (t, power-is 2 0, mul-one x)) (itself x h))
     (λ n. by-eq (Stands (x * power P 2 e % P)) e 1 (λ t. to (rw (t, power-is 2 1) (omega arith)) (add-stands x x h h))
-    (λ o. by-lt (Stands (x * power P 2 e % P)) e 96 (λ t. to (rw (power-is 2 e) refl) (mul-stands x (entry e) h (entry-below e)))
+    (λ o. by-lt (Stands (x * power P 2 e % P)) e 96 (λ t. to (rw (power-is 2 e)) (mul-stands x (entry e) h (entry-below e)))
     (λ t. to (rw (past-96 e t) (negated x (entry (e - 96)) (negWord x) (neg-stands x h .element)))
     (mul-stands (negWord x) (entry (e - 96)) (neg-stands x h .below) (entry-below (e - 96))))))
 
@@ -53,58 +69,7 @@ pub shift-up-stands : (x e : ℕ) → x < 2 ^ 64 → Stands (x * power P 2 e % P
 unfolding shiftUpWord
 shift-up-stands x e h = to (ap (λ (n : ℕ). x * n % P) (period 2 192 e two-period)) (up-stands x (e % 192) h)
 
--- the rule at each arm of the match
-module _ (x e : ℕ) where
-  pub up-none : e ≡ 0 → x ≡ shiftUpWord x e
-  unfolding upWord shiftUpWord
-  up-none h = rw (h) refl
-
-  pub up-once : e ≡ 1 → addWord x x ≡ shiftUpWord x e
-  unfolding upWord shiftUpWord
-  up-once h = rw (h) refl
-
-  pub up-table : 2 ≤ e → e < 96 → mulWord x (entry e) ≡ shiftUpWord x e
-  unfolding upWord shiftUpWord
-  up-table h k = rw (mod-eq-of-lt {n = e} {m = 192} (omega arith), ne-eqb e 0 (omega arith), ne-eqb e 1 (omega arith), lt-ltb e 96 k) refl
-
-  pub up-negative : 96 ≤ e → e < 192 → mulWord (negWord x) (entry (e - 96)) ≡ shiftUpWord x e
-  unfolding upWord shiftUpWord
-  up-negative h k = rw (mod-eq-of-lt {n = e} {m = 192} k, ne-eqb e 0 (omega arith), ne-eqb e 1 (omega arith), le-ltb e 96 h) refl
-
-  pub up-rest : shiftUpWord x (e % 192) ≡ shiftUpWord x e
-  unfolding shiftUpWord
-  up-rest = ap (upWord x) (mod-mod e 192)
-
-module _ (x e : ℕ) where
-  pub down-none : e % 192 ≡ 0 → x ≡ shiftDownWord x e
-  unfolding downWord shiftDownWord
-  down-none h = rw (h) refl
-
-  pub down-once : e % 192 ≡ 1 → halveWord x ≡ shiftDownWord x e
-  unfolding downWord shiftDownWord
-  down-once h = rw (h) refl
-
-  pub down-split : 2 ≤ e % 192 → e % 192 ≤ 32 → splitWord x (e % 192) ≡ shiftDownWord x e
-  unfolding downWord shiftDownWord
-  down-split h k = rw (ne-eqb (e % 192) 0 (omega arith), ne-eqb (e % 192) 1 (omega arith), le-leb (e % 192) 32 k) refl
-
-  pub down-up : 32 < e % 192 → shiftUpWord x (192 - e % 192) ≡ shiftDownWord x e
-  unfolding shiftUpWord downWord shiftDownWord
-  down-up h =
-      rw (ne-eqb (e % 192) 0 (omega arith), ne-eqb (e % 192) 1 (omega arith), lt-leb (e % 192) 32 h)
-      (ap (upWord x) (mod-eq-of-lt (omega arith)))
-
--- what times 2^e is x, is x times the e-th power of a half
-halves-undo : (e : ℕ) → power P 2 e * power P half e % P ≡ 1
-halves-undo e = sym (power-base 2 half e) ∙ power-same P (2 * half) 1 e refl ∙ power-of-one P e
-
-undo : (x e r : ℕ) → r * power P 2 e % P ≡ x % P → r % P ≡ x * power P half e % P
-undo x e r h =
-    sym (ap (λ (n : ℕ). n % P) (mul-one r)) ∙ sym (mul-same-right P r (power P 2 e * power P half e) 1 (halves-undo e))
-    ∙ ap (λ (n : ℕ). n % P) (sym (mul-assoc r (power P 2 e) (power P half e))) ∙ mul-same-left P (r * power P 2 e) x (power P half e) h
-
-half-period : power P half 192 ≡ 1
-half-period = power-is half 192
+-- the shift down by 1 to 32, with l the low e bits and h the bits above
 
 -- (h + l·a - l·b)·2^e is h·2^e + l, less l·P; -1 is written s, so that P is s + 1
 split-back : (h l a b e w s t : ℕ) → a * e ≡ w → b * e ≡ t + 1 → s + w ≡ t + 1
@@ -112,7 +77,6 @@ split-back : (h l a b e w s t : ℕ) → a * e ≡ w → b * e ≡ t + 1 → s +
 split-back h l a b e w s t f g k =
     same (s + 1) _ (h * e + l) 0 (l * t) (omega (arith, ap (λ (n : ℕ). l * n) f, ap (λ (n : ℕ). s * l * n) g, ap (λ (n : ℕ). l * n) k))
 
--- the shift down by e from 1 to 32
 module _ (e : ℕ) (i : 1 ≤ e) (k : e ≤ 32) where
   up-by : (n : ℕ) → 32 ≤ n → 2 ^ (n - e) * 2 ^ e ≡ 2 ^ n
   up-by n m = sym (pow-add 2 (n - e) e) ∙ ap (λ (j : ℕ). 2 ^ j) (let r : n - e + e ≡ n = omega arith in r)
@@ -126,6 +90,7 @@ module _ (e : ℕ) (i : 1 ≤ e) (k : e ≤ 32) where
   pub high-room : (x : ℕ) → x < 2 ^ 64 → x / 2 ^ e < 2 ^ 63
   high-room x h = shr-lt 63 e (lt-of-lt-of-le h (pow-mono {i = 64} (omega arith)))
 
+  -- what is taken away is at most P, so one correction is enough
   pub taken-room : (l : ℕ) → l < 2 ^ e → l * 2 ^ (64 - e) ≤ P
   taken-room l h =
       let m : 2 ^ 32 ≤ 2 ^ (64 - e) = pow-mono {i = 32} (omega arith) in
@@ -135,7 +100,7 @@ module _ (e : ℕ) (i : 1 ≤ e) (k : e ≤ 32) where
   back x =
       rw (power-is 2 e)
       (mul-same-right P _ (2 ^ e % P) (2 ^ e) (mod-mod (2 ^ e) P)
-      ∙ split-back (x / 2 ^ e) (x % 2 ^ e) (2 ^ (32 - e)) (2 ^ (64 - e)) (2 ^ e) (2 ^ 32) (P - 1) (2 ^ 64 - 1) (up-by 32 (omega arith)) (up-by 64 (omega arith)) refl
+      ∙ split-back (x / 2 ^ e) (x % 2 ^ e) _ _ (2 ^ e) _ (P - 1) (2 ^ 64 - 1) (up-by 32 (omega arith)) (up-by 64 (omega arith)) refl
       ∙ ap (λ (n : ℕ). n % P) (split x e))
 
   split-stands : (x : ℕ) → x < 2 ^ 64 → Stands (x * power P half e % P) (splitWord x e)
@@ -146,21 +111,44 @@ module _ (e : ℕ) (i : 1 ≤ e) (k : e ≤ 32) where
       (plus-stands (x / 2 ^ e + x % 2 ^ e * 2 ^ (32 - e)) (x % 2 ^ e * 2 ^ (64 - e))
       (omega (arith, high-room x h, low-room 32 (x % 2 ^ e) (omega arith) l)) (omega (arith, taken-room (x % 2 ^ e) l)))
 
+-- the shift down
+
 down-stands : (x e : ℕ) → x < 2 ^ 64 → e < 192 → Stands (x * power P half e % P) (downWord x e)
 unfolding downWord
 down-stands x e h k =
-    by-eq (Stands (x * power P half e % P)) e 0 (λ t. record { below = h; element = rw (t, power-is half 0, mul-one x) refl })
-    (λ n. by-eq (Stands (x * power P half e % P)) e 1 (λ t. to (rw (t, power-is half 1) refl) (halve-stands x h))
+    by-eq (Stands (x * power P half e % P)) e 0 (λ t. to (rw (t, power-is half 0, mul-one x)) (itself x h))
+    (λ n. by-eq (Stands (x * power P half e % P)) e 1 (λ t. to (rw (t, power-is half 1)) (halve-stands x h))
     (λ o. by-le (Stands (x * power P half e % P)) e 32 (λ t. split-stands e (omega arith) t x h)
-    (λ t. to (undo x e (x * power P 2 (192 - e)) around) (up-stands x (192 - e) h))))
+    (λ t. to (undo x e (x * power P 2 (192 - e)) (times-one x (power P 2 (192 - e)) (power P 2 e) around)) (up-stands x (192 - e) h))))
   where
-    around : x * power P 2 (192 - e) * power P 2 e % P ≡ x % P
-    around =
-        ap (λ (n : ℕ). n % P) (mul-assoc x (power P 2 (192 - e)) (power P 2 e))
-        ∙ mul-same-right P x (power P 2 (192 - e) * power P 2 e) 1
-        (sym (power-add 2 (192 - e) e) ∙ ap (power P 2) (let r : 192 - e + e ≡ 192 = omega arith in r) ∙ two-period)
-        ∙ ap (λ (n : ℕ). n % P) (mul-one x)
+    around : power P 2 (192 - e) * power P 2 e % P ≡ 1
+    around = sym (power-add 2 (192 - e) e) ∙ ap (power P 2) (let r : 192 - e + e ≡ 192 = omega arith in r) ∙ two-period
 
 pub shift-down-stands : (x e : ℕ) → x < 2 ^ 64 → Stands (x * power P half e % P) (shiftDownWord x e)
 unfolding shiftDownWord
 shift-down-stands x e h = to (ap (λ (n : ℕ). x * n % P) (period half 192 e half-period)) (down-stands x (e % 192) h (mod-lt e (lit< tt)))
+
+-- shifts by e and by e + 192 agree, and each shift undoes the other
+
+pub shift-up-again : (x e : ℕ) → shiftUpWord x (e + 192) ≡ shiftUpWord x e
+unfolding shiftUpWord
+shift-up-again x e = ap (upWord x) (omega arith)
+
+pub shift-down-again : (x e : ℕ) → shiftDownWord x (e + 192) ≡ shiftDownWord x e
+unfolding shiftDownWord
+shift-down-again x e = ap (downWord x) (omega arith)
+
+there-and-back : (x a b r : ℕ) → a * b % P ≡ 1 → r % P ≡ x * a % P → r * b % P ≡ x % P
+there-and-back x a b r h e = mul-same-left P r (x * a) b e ∙ times-one x a b h
+
+pub down-undoes-up : (x e : ℕ) → x < 2 ^ 64 → shiftDownWord (shiftUpWord x e) e % P ≡ x % P
+down-undoes-up x e h =
+    let up : Stands (x * power P 2 e % P) (shiftUpWord x e) = shift-up-stands x e h in
+    shift-down-stands (shiftUpWord x e) e (up .below) .element
+    ∙ there-and-back x (power P 2 e) (power P half e) (shiftUpWord x e) (halves-undo e) (up .element)
+
+pub up-undoes-down : (x e : ℕ) → x < 2 ^ 64 → shiftUpWord (shiftDownWord x e) e % P ≡ x % P
+up-undoes-down x e h =
+    let down : Stands (x * power P half e % P) (shiftDownWord x e) = shift-down-stands x e h in
+    shift-up-stands (shiftDownWord x e) e (down .below) .element
+    ∙ there-and-back x (power P half e) (power P 2 e) (shiftDownWord x e) (rw (mul-comm (power P half e)) (halves-undo e)) (down .element)

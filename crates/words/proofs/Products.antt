@@ -1,28 +1,24 @@
--- Products of numbers of k bits.
+-- Products of two words by halves of 32 bits, in two limbs.
 use mathlib.Core.Path.{_≡_, subst⁻¹}
-use native.Mathlib.Omega.{arith}
 use Prim.Native.Nat.{ℕ, _+_, _-_, _*_, _/_, _%_, _^_, _<_, _≤_}
 use native.Mathlib.Nat.{le-of-lt, lt-of-le-of-lt, mul-le-mul, mul-le-mul-left, mul-lt-mul-of-pos-right, div-add-mod, mod-add-div}
-use Rattle.words.specs.Words.{limbs}
+use native.Mathlib.Omega.{arith}
 use lib.Pow.{pow-add, pow-pos}
+use Rattle.words.specs.Limbs.{limbs, partial}
 
 pub product-below : (k : ℕ) {a b : ℕ} → a < 2 ^ k → b < 2 ^ k → a * b < 2 ^ (k + k)
 product-below k {a} {b} h i =
     subst⁻¹ (λ (n : ℕ). a * b < n) (pow-add 2 k k)
     (lt-of-le-of-lt (mul-le-mul-left a (le-of-lt i)) (mul-lt-mul-of-pos-right h (pow-pos k)))
 
--- a product of two halves leaves room for two carries
-pub halves-room : {a b : ℕ} → a < 2 ^ 32 → b < 2 ^ 32 → a * b + 2 ^ 33 ≤ 2 ^ 64 + 1
-halves-room {a} {b} h k =
-    let p : a * b ≤ (2 ^ 32 - 1) * (2 ^ 32 - 1) = mul-le-mul {n₂ = 2 ^ 32 - 1} {m₂ = 2 ^ 32 - 1} (omega arith) (omega arith) in
-    omega arith
+pub halves-below : {a b : ℕ} → a < 2 ^ 32 → b < 2 ^ 32 → a * b ≤ partial
+halves-below h k = mul-le-mul {n₂ = 2 ^ 32 - 1} {m₂ = 2 ^ 32 - 1} (omega arith) (omega arith)
 
 -- the product of two words by their halves
 expand : (a b c d : ℕ) → (2 ^ 32 * a + b) * (2 ^ 32 * c + d) ≡ 2 ^ 64 * (a * c) + 2 ^ 32 * (b * c + a * d) + b * d
 expand a b c d = omega arith
 
-pub by-halves : (x y : ℕ)
-    → x * y ≡ 2 ^ 64 * (x / 2 ^ 32 * (y / 2 ^ 32)) + 2 ^ 32 * (x % 2 ^ 32 * (y / 2 ^ 32) + x / 2 ^ 32 * (y % 2 ^ 32)) + x % 2 ^ 32 * (y % 2 ^ 32)
+pub by-halves : (x y : ℕ) → x * y ≡ 2 ^ 64 * (x / 2 ^ 32 * (y / 2 ^ 32)) + 2 ^ 32 * (x % 2 ^ 32 * (y / 2 ^ 32) + x / 2 ^ 32 * (y % 2 ^ 32)) + x % 2 ^ 32 * (y % 2 ^ 32)
 by-halves x y = rw (div-add-mod x (2 ^ 32), div-add-mod y (2 ^ 32)) at (expand (x / 2 ^ 32) (x % 2 ^ 32) (y / 2 ^ 32) (y % 2 ^ 32))
 
 -- the sum n of four partial products: its upper limb by a ladder of carries, its low limb by sums that wrap
@@ -37,3 +33,12 @@ module _ (n ll lh hl hh a b c d m lo : ℕ) (e : n ≡ 2 ^ 64 * hh + 2 ^ 32 * (l
       → m ≡ (lh + hl) % 2 ^ 64 → lo ≡ (ll + m * 2 ^ 32 % 2 ^ 64) % 2 ^ 64 → limbs lo (hh + c + d) ≡ n
   unfolding limbs
   joined f g h i j k = rw (upper f g h i, lower j k) (mod-add-div n (2 ^ 64))
+
+-- the limbs of a number are its remainder and its quotient by 2^64
+pub limb-low : (lo hi n : ℕ) → lo < 2 ^ 64 → limbs lo hi ≡ n → lo ≡ n % 2 ^ 64
+unfolding limbs
+limb-low lo hi n h e = omega arith
+
+pub limb-high : (lo hi n : ℕ) → lo < 2 ^ 64 → limbs lo hi ≡ n → hi ≡ n / 2 ^ 64
+unfolding limbs
+limb-high lo hi n h e = omega arith

@@ -2,7 +2,7 @@
 use mathlib.Core.Path.{_≡_, refl, sym, ap, _∙_}
 use mathlib.Core.Bool.{true, false, true≢false, false≢true}
 use lib.Dec.{leb·zero}
-use Prim.Native.Nat.{ℕ, suc, _+_, _-_, _%_, _^_, _≤_}
+use Prim.Native.Nat.{ℕ, suc, _+_, _-_, _^_, _≤_}
 use native.Mathlib.Omega.{arith}
 use lib.IntN.{ℤ, pos, negsuc}
 use lib.Signed.{leZ, ltZ}
@@ -11,8 +11,10 @@ use mir.Syntax.{w64}
 use mir.Val.{SFits, toZ, ofZ}
 use mir.ValLaws.{toZ-ofZ, toZ-pos}
 use Rattle.prime.specs.Modulus.{P}
-use Rattle.words.specs.Words.{residue, fromI64Word, inRange}
-use Rattle.words.proofs.Laws.{Stands, opposite}
+use Rattle.words.specs.Elements.{residue}
+use Rattle.words.specs.Words.{fromI64Word, inRange}
+use Rattle.words.proofs.Stands.{Stands}
+use Rattle.words.proofs.Laws.{opposite}
 
 pub from-i64-stands : (z : ℤ) → SFits w64 z → Stands (residue z) (fromI64Word z)
 from-i64-stands (pos n) f = record { below = omega (arith, f .sfits); element = refl }

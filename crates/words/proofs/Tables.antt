@@ -1,6 +1,6 @@
 -- A table by its rule: the list whose entries the rule gives. That a constant of the source is this list is conversion, so no table is
 -- written twice.
-use mathlib.Core.Path.{_≡_, refl, sym, ap, _∙_}
+use mathlib.Core.Path.{_≡_, ap, _∙_}
 use mathlib.Core.List.{List, [], _∷_}
 use Prim.Native.Nat.{ℕ, zero, suc, _+_, _<_}
 use native.Mathlib.Omega.{arith}

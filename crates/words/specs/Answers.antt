@@ -1,5 +1,4 @@
 -- 01's number and word for each case of an answer.
-use mathlib.Core.Bool.{Bool, true, false}
 use Prim.Native.Nat.{ℕ}
 use Rattle.words.specs.declared.answers.Refusal.{Refusal}
 use Rattle.words.specs.declared.answers.Refusal.the-variants.{OutOfRange, InverseOfZero, NoSquareRoot, LengthsDiffer, TooMany, WrongBuffer, Above32, Unreadable}

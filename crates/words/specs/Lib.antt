@@ -1,4 +1,6 @@
 -- What the contracts of this crate speak of.
+pub mod Elements
+pub mod Limbs
 pub mod Words
 pub mod Orders
 pub mod Answers

@@ -11,7 +11,7 @@ pub record Held (w e r : ℕ) : Type 0 where
   pub word : r ≡ w
   pub element : r % P ≡ e
 
--- What is seen, r, is c of the canonical forms, and e of the elements.
+-- What is seen, r, is c by the canonical forms and e by the elements.
 pub record Seen {A : Type 0} (c e r : A) : Type 0 where
   pub canonical : r ≡ c
   pub element : r ≡ e

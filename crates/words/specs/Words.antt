@@ -1,6 +1,6 @@
 -- 01, "Held words, rule by rule": the word that each operation answers, over ℕ, by tests and natural subtraction.
 use mathlib.Core.Bool.{Bool, cond}
-use Prim.Native.Nat.{ℕ, _+_, _-_, _*_, _/_, _%_, _^_, _≤_}
+use Prim.Native.Nat.{ℕ, _+_, _-_, _*_, _/_, _%_, _^_}
 use lib.Dec.{eqb, leb, ltb}
 use lib.IntN.{ℤ, pos, negsuc}
 use Rattle.prime.specs.Modulus.{P}
@@ -10,74 +10,51 @@ unfoldable pub canonical : ℕ → ℕ
 canonical x = cond (ltb x P) x (x - P)
 
 -- n, "less P if 2^64 or more".
-abbrev pub less : ℕ → ℕ
-less n = cond (ltb n (2 ^ 64)) n (n - P)
+abbrev pub lessP : ℕ → ℕ
+lessP n = cond (ltb n (2 ^ 64)) n (n - P)
 
 -- a - b, "plus P if negative".
-abbrev pub plus : ℕ → ℕ → ℕ
-plus a b = cond (leb b a) (a - b) (a + P - b)
+abbrev pub plusP : ℕ → ℕ → ℕ
+plusP a b = cond (leb b a) (a - b) (a + P - b)
 
--- 01, "add x, y".
+-- "add x, y": x+y, less P the fewest times (0, 1 or 2) that bring it below 2^64.
 unfoldable pub addWord : ℕ → ℕ → ℕ
-addWord x y = less (less (x + y))
+addWord x y = lessP (lessP (x + y))
 
--- 01, "sub x, y".
+-- "sub x, y": x-y, plus P the fewest times (0, 1 or 2) that bring it to 0 or more.
 unfoldable pub subWord : ℕ → ℕ → ℕ
-subWord x y = cond (leb y x) (x - y) (plus (x + P) y)
+subWord x y = cond (leb y x) (x - y) (plusP (x + P) y)
 
--- 01, "neg x".
+-- "neg x": P minus canonical x, so zero gives P.
 unfoldable pub negWord : ℕ → ℕ
-unfolding canonical
 negWord x = P - canonical x
 
--- The number below 2^128 that two limbs make.
-unfoldable pub limbs : ℕ → ℕ → ℕ
-limbs lo hi = lo + 2 ^ 64 * hi
-
--- As small as a product of two numbers of 32 bits: two carries of 32 bits may be added to it.
-abbrev pub Roomy : ℕ → Type 0
-Roomy n = n + 2 ^ 33 ≤ 2 ^ 64 + 1
-
--- 01, "reduce lo, hi": hh is hi / 2^32 and hl is hi % 2^32.
+-- "reduce lo, hi": with hh = hi / 2^32 and hl = hi % 2^32, lo-hh, plus P if negative; add hl·(2^32-1); less P if 2^64 or more.
 unfoldable pub reduceWord : ℕ → ℕ → ℕ
-reduceWord lo hi = less (plus lo (hi / 2 ^ 32) + hi % 2 ^ 32 * (2 ^ 32 - 1))
+reduceWord lo hi = lessP (plusP lo (hi / 2 ^ 32) + hi % 2 ^ 32 * (2 ^ 32 - 1))
 
--- 01, "mul x, y".
+-- "mul x, y": reduce of the full 128-bit product; square is mul x, x.
 unfoldable pub mulWord : ℕ → ℕ → ℕ
 mulWord x y = reduceWord (x * y % 2 ^ 64) (x * y / 2 ^ 64)
 
--- The inverse of 2 modulo P.
-abbrev pub half : ℕ
-half = (P + 1) / 2
-
--- 01, "halve x".
+-- "halve x": x/2 if the word is even, else (x+P)/2.
 unfoldable pub halveWord : ℕ → ℕ
 halveWord x = cond (eqb (x % 2) 0) (x / 2) ((x + P) / 2)
 
--- 01, "from i64": n, or P + n where it is negative.
+-- "from i64": n if n is 0 or more, else P+n; negsuc n is -(n + 1).
 abbrev pub fromI64Word : ℤ → ℕ
 fromI64Word (pos n) = n
 fromI64Word (negsuc n) = P - (n + 1)
 
--- The remainder of a signed number by P; -1 is P - 1.
-abbrev pub residue : ℤ → ℕ
-residue (pos n) = n % P
-residue (negsuc n) = (P - 1) * (n + 1) % P
-
--- 01: the checked i64 reader takes "exactly -(2^63-2^31) to 2^63-2^31, both ends included".
-abbrev pub inRange : ℤ → Bool
-inRange (pos n) = leb n (2 ^ 63 - 2 ^ 31)
-inRange (negsuc n) = leb (n + 1) (2 ^ 63 - 2 ^ 31)
-
--- 01, "from two limbs".
+-- "from two limbs": canonical form of reduce.
 unfoldable pub fromU128Word : ℕ → ℕ → ℕ
 fromU128Word lo hi = canonical (reduceWord lo hi)
 
--- 01, the table: entry e is 2^e, canonical.
+-- The table "holds 2^0 to 2^95, canonical".
 abbrev pub entry : ℕ → ℕ
 entry e = 2 ^ e % P
 
--- 01, the shift up by e below 192.
+-- The shift up below 192: 0 gives x; 1 gives add x, x; 2 to 95 mul by the table entry; 96 to 191 mul of neg x by the entry 96 lower.
 unfoldable pub upWord : ℕ → ℕ → ℕ
 upWord x e =
     cond (eqb e 0) x
@@ -85,15 +62,15 @@ upWord x e =
     (cond (ltb e 96) (mulWord x (entry e))
     (mulWord (negWord x) (entry (e - 96)))))
 
--- 01, "the power-of-two shift up": 192 and up take the remainder by 192.
+-- The shift up: "192 and up take the remainder by 192".
 unfoldable pub shiftUpWord : ℕ → ℕ → ℕ
 shiftUpWord x e = upWord x (e % 192)
 
--- 01, the shift down by e from 2 to 32: l is x % 2^e, h is x / 2^e.
+-- The shift down by 2 to 32: with l the low e bits of x and h the bits above, h + l·2^(32-e) - l·2^(64-e), plus P if negative.
 unfoldable pub splitWord : ℕ → ℕ → ℕ
-splitWord x e = plus (x / 2 ^ e + x % 2 ^ e * 2 ^ (32 - e)) (x % 2 ^ e * 2 ^ (64 - e))
+splitWord x e = plusP (x / 2 ^ e + x % 2 ^ e * 2 ^ (32 - e)) (x % 2 ^ e * 2 ^ (64 - e))
 
--- 01, the shift down by e below 192.
+-- The shift down below 192: 0 gives x; 1 halves; 2 to 32 as above; 33 to 191 shift up by 192-e.
 unfoldable pub downWord : ℕ → ℕ → ℕ
 downWord x e =
     cond (eqb e 0) x
@@ -101,6 +78,11 @@ downWord x e =
     (cond (leb e 32) (splitWord x e)
     (upWord x (192 - e))))
 
--- 01, "Shift down takes the remainder by 192 first".
+-- The shift down "takes the remainder by 192 first".
 unfoldable pub shiftDownWord : ℕ → ℕ → ℕ
 shiftDownWord x e = downWord x (e % 192)
+
+-- The checked i64 reader accepts "exactly -(2^63-2^31) to 2^63-2^31, both ends included".
+abbrev pub inRange : ℤ → Bool
+inRange (pos n) = leb n (2 ^ 63 - 2 ^ 31)
+inRange (negsuc n) = leb (n + 1) (2 ^ 63 - 2 ^ 31)

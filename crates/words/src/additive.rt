@@ -3,7 +3,8 @@
 ghost use Prim.Native.Nat.{_+_, _-_, _*_, _%_, _^_, _<_, _≤_};
 ghost use mathlib.Core.Path.{_≡_};
 ghost use Rattle.prime.specs.Modulus.{P};
-ghost use Rattle.words.specs.Words.{less, plus, addWord, subWord, negWord, half, halveWord};
+ghost use Rattle.words.specs.Elements.{half};
+ghost use Rattle.words.specs.Words.{lessP, plusP, addWord, subWord, negWord, halveWord};
 ghost use Rattle.words.specs.Promises.{Held};
 use super::NEG_ORDER;
 use super::ORDER_U64;
@@ -48,11 +49,14 @@ pub fn neg(x: u64) -> u64
     ORDER_U64 - as_canonical_u64(x)
 }
 
+// (P + 1) / 2, the inverse of 2.
+const HALF_P_PLUS_1: u64 = 0x7FFF_FFFF_8000_0001;
+
 // x / 2 if the word is even, else (x + P) / 2.
 pub fn halve(x: u64) -> u64
     ensures { λ r. ⌜ Held (halveWord x) (x * half % P) r ⌝ }
 {
-    // Written out so that x + P, which may pass 2^64, is never made: (x + P) / 2 = x / 2 + (P + 1) / 2 for an odd x.
+    // For an odd x, (x + P) / 2 = x / 2 + (P + 1) / 2, and no sum passes 2^64.
     if x % 2 == 0 {
         x / 2
     } else {
@@ -60,13 +64,10 @@ pub fn halve(x: u64) -> u64
     }
 }
 
-// (P + 1) / 2, the inverse of 2.
-const HALF_P_PLUS_1: u64 = 0x7FFF_FFFF_8000_0001;
-
 // x + y, less P if it is 2^64 or more. One correction is enough only where x + y < 2^64 + P.
 pub(crate) fn add_no_canonicalize_trashing_input(x: u64, y: u64) -> u64
     requires { ⌜ x + y < 2 ^ 64 + P ⌝ }
-    ensures { λ r. ⌜ r ≡ less (x + y) ⌝ }
+    ensures { λ r. ⌜ r ≡ lessP (x + y) ⌝ }
 {
     let sum = wrapping_add_u64(x, y);
     if x <= sum { sum } else { sum + NEG_ORDER }
@@ -75,7 +76,7 @@ pub(crate) fn add_no_canonicalize_trashing_input(x: u64, y: u64) -> u64
 // x - y, plus P if it is negative. One correction is enough only where y <= x + P.
 pub(crate) fn sub_once(x: u64, y: u64) -> u64
     requires { ⌜ y ≤ x + P ⌝ }
-    ensures { λ r. ⌜ r ≡ plus x y ⌝ }
+    ensures { λ r. ⌜ r ≡ plusP x y ⌝ }
 {
     let difference = wrapping_sub_u64(x, y);
     if y <= x {

@@ -1,5 +1,4 @@
 // The canonical form of a word, and what is seen by it: comparisons. Ports `PrimeField64::as_canonical_u64`, `PartialEq`, `Ord`, `is_zero`.
-ghost use mathlib.Core.Path.{_≡_};
 ghost use Prim.Native.Nat.{_%_};
 ghost use lib.Dec.{eqb};
 ghost use Rattle.prime.specs.Modulus.{P};

@@ -1,9 +1,10 @@
 // Words from other integers. Ports `QuotientMap` for i64, u128 and u64.
-ghost use mathlib.Core.Path.{_≡_};
 ghost use Prim.Native.Nat.{_%_};
 ghost use lib.Dec.{ltb};
 ghost use Rattle.prime.specs.Modulus.{P};
-ghost use Rattle.words.specs.Words.{limbs, residue, fromI64Word, fromU128Word, inRange};
+ghost use Rattle.words.specs.Elements.{residue};
+ghost use Rattle.words.specs.Limbs.{limbs};
+ghost use Rattle.words.specs.Words.{fromI64Word, fromU128Word, inRange};
 ghost use Rattle.words.specs.Promises.{Held, Answered};
 use super::ORDER_U64;
 use super::answers::Answer;

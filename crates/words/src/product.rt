@@ -1,8 +1,9 @@
 // Products: the full product in two limbs, its reduction, and what is made of them. Ports `mul_wide`, `reduce128`, `Mul` and `square`.
 ghost use mathlib.Core.Path.{_≡_};
-ghost use Prim.Native.Nat.{_+_, _*_, _/_, _%_, _^_, _<_, _≤_};
+ghost use Prim.Native.Nat.{_+_, _*_, _%_, _^_, _<_, _≤_};
 ghost use Rattle.prime.specs.Modulus.{P};
-ghost use Rattle.words.specs.Words.{limbs, Roomy, reduceWord, mulWord};
+ghost use Rattle.words.specs.Limbs.{limbs, partial};
+ghost use Rattle.words.specs.Words.{reduceWord, mulWord};
 ghost use Rattle.words.specs.Promises.{Held};
 use super::NEG_ORDER;
 use super::additive::add_no_canonicalize_trashing_input;
@@ -17,10 +18,10 @@ pub(crate) struct Limbs {
     pub hi: u64,
 }
 
-// The product of two halves, with room for two carries of 32 bits.
+// The product of two numbers of 32 bits. Two carries of 32 bits may be added to it.
 fn mul_halves(a: u64, b: u64) -> u64
     requires { ⌜ (a < 2 ^ 32) × (b < 2 ^ 32) ⌝ }
-    ensures { λ r. ⌜ (r ≡ a * b) × Roomy r ⌝ }
+    ensures { λ r. ⌜ (r ≡ a * b) × (r ≤ partial) ⌝ }
 {
     a * b
 }
@@ -28,7 +29,7 @@ fn mul_halves(a: u64, b: u64) -> u64
 // The sum of four partial products, hh * 2^64 + (lh + hl) * 2^32 + ll. The upper limb is the ladder of the Rust's wasm arm, the low limb a sum of its
 // own: taken so, and not from the ladder, LLVM finds one multiply where `mul_wide` has four.
 fn join(ll: u64, lh: u64, hl: u64, hh: u64) -> Limbs
-    requires { ⌜ (ll < 2 ^ 64) × Roomy lh × Roomy hl × Roomy hh ⌝ }
+    requires { ⌜ (ll ≤ partial) × (lh ≤ partial) × (hl ≤ partial) × (hh ≤ partial) ⌝ }
     ensures { λ r. ⌜ limbs (r .lo) (r .hi) ≡ 2 ^ 64 * hh + 2 ^ 32 * (lh + hl) + ll ⌝ }
 {
     let t0 = hl + high_bits(ll, 32);

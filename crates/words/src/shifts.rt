@@ -1,9 +1,10 @@
 // Shifts by powers of two. Ports `POWERS_OF_TWO`, `mul_2exp_u64` and `div_2exp_u64`.
 ghost use mathlib.Core.Path.{_≡_};
-ghost use Prim.Native.Nat.{_+_, _*_, _/_, _%_, _^_, _<_, _≤_};
+ghost use Prim.Native.Nat.{_*_, _%_, _<_, _≤_};
 ghost use Rattle.prime.specs.Modulus.{P};
 ghost use Rattle.prime.specs.Powers.{power};
-ghost use Rattle.words.specs.Words.{entry, half, shiftUpWord, splitWord, shiftDownWord};
+ghost use Rattle.words.specs.Elements.{half};
+ghost use Rattle.words.specs.Words.{entry, shiftUpWord, splitWord, shiftDownWord};
 ghost use Rattle.words.specs.Promises.{Held};
 use super::additive::add;
 use super::additive::halve;

@@ -5,7 +5,8 @@ use mathlib.Core.Path.{ap}
 use Prim.Native.Nat.{ℕ, _-_}
 use Rattle.prime.specs.Modulus.{P}
 use Rattle.words.specs.Words.{negWord}
-use Rattle.words.proofs.Laws.{held, neg-stands, canonical-is}
+use Rattle.words.proofs.Stands.{held}
+use Rattle.words.proofs.Laws.{neg-stands, canonical-is}
 use Rattle.words.proofs.additive.neg.Statement.{statement}
 use Rattle.words.proofs.additive.neg.Tie as tie
 

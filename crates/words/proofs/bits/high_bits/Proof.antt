@@ -1,8 +1,7 @@
 -- A shift down takes the quotient by a power of two.
 use borrow.Author.Needs.{needs}
-use mathlib.Core.Path.{refl, subst⁻¹}
-use Prim.Native.Nat.{ℕ, _+_, _-_, _^_, _<_}
-use native.Mathlib.Omega.{arith}
+use mathlib.Core.Path.{refl}
+use Prim.Native.Nat.{_-_}
 use native.Mathlib.Nat.{sub-add-cancel, le-of-lt}
 use lib.Pow.{shr-lt}
 use Rattle.words.proofs.bits.high_bits.Statement.{statement}

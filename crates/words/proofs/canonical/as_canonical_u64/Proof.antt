@@ -1,7 +1,8 @@
 -- The canonical form, by its rule on either side of the test.
 use borrow.Author.Tests.{lt-ltb, le-ltb}
 use Rattle.words.specs.Words.{canonical}
-use Rattle.words.proofs.Laws.{held, canonical-stands}
+use Rattle.words.proofs.Stands.{held}
+use Rattle.words.proofs.Laws.{canonical-stands}
 use Rattle.words.proofs.canonical.as_canonical_u64.Statement.{statement}
 use Rattle.words.proofs.canonical.as_canonical_u64.Tie as tie
 

@@ -3,12 +3,12 @@ use mathlib.Core.Path.{refl}
 use borrow.Author.Needs.{needs}
 use borrow.Author.Tests.{lt-ltb, le-ltb}
 use Rattle.words.specs.declared.answers.Refusal.the-variants.{OutOfRange}
-use Rattle.words.proofs.Laws.{granted, refused, word-stands}
+use Rattle.words.proofs.Stands.{granted, refused, itself}
 use Rattle.words.proofs.conversions.from_canonical_checked_u64.Statement.{statement}
 use Rattle.words.proofs.conversions.from_canonical_checked_u64.Tie as tie
 
 returns : tie.Need-returns
-returns c = granted _ (lt-ltb _ _ (c .if1 .taken)) refl (word-stands _ (search needs))
+returns c = granted _ (lt-ltb _ _ (c .if1 .taken)) refl (itself _ (search needs))
 
 returns-2 : tie.Need-returns-2
 returns-2 c = refused _ OutOfRange (le-ltb _ _ (c .if1 .left))

@@ -1,13 +1,15 @@
 -- The number itself, or P - 1 less its bits turned over.
 use borrow.Author.Needs.{needs}
 use native.Mathlib.Omega.{arith}
-use Rattle.words.proofs.Laws.{held}
+use Rattle.words.proofs.Stands.{held}
 use Rattle.words.proofs.Signed.{from-i64-stands, positive, negative}
 use Rattle.words.proofs.conversions.from_i64.Statement.{statement}
 use Rattle.words.proofs.conversions.from_i64.Tie as tie
 
 cast-result : tie.Need-cast-result
-cast-result c = rw (positive (c .before .args .int) (c .before .fits .int) (c .if1 .taken)) (tt, record { fits = from-i64-stands _ (c .before .fits .int) .below })
+cast-result c =
+    rw (positive (c .before .args .int) (c .before .fits .int) (c .if1 .taken))
+    (tt, record { fits = from-i64-stands _ (c .before .fits .int) .below })
 
 cast-result-2 : tie.Need-cast-result-2
 cast-result-2 c = rw (negative (c .before .args .int) (c .before .fits .int) (c .if1 .left) .1) (tt, search needs)

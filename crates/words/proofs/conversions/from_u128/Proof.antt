@@ -2,7 +2,8 @@
 use borrow.Author.Needs.{needs}
 use mathlib.Core.Path.{ap, _∙_}
 use Rattle.words.specs.Words.{canonical, fromU128Word}
-use Rattle.words.proofs.Laws.{held, from-u128-stands}
+use Rattle.words.proofs.Stands.{held}
+use Rattle.words.proofs.Laws.{from-u128-stands}
 use Rattle.words.proofs.conversions.from_u128.Statement.{statement}
 use Rattle.words.proofs.conversions.from_u128.Tie as tie
 

@@ -5,8 +5,13 @@ use Rattle.words.proofs.product.mul_wide.Statement.{statement}
 use Rattle.words.proofs.product.mul_wide.Tie as tie
 
 returns : tie.Need-returns
-returns c = cc (by-halves (c .before .before .before .before .before .before .before .before .before .args .x)
-    (c .before .before .before .before .before .before .before .before .before .args .y))
+returns c =
+    let halves = c .before .before .before .before .before in
+    let start = halves .before .before .before .before in
+    cc (by-halves (start .args .x) (start .args .y))
 
 pub mul-wide-spec : {M : Type 1} → statement M
-mul-wide-spec = tie.close (tie.spec (λ c κs. search needs) (λ c κs. search needs) (λ c κs. search needs) (λ c κs. search needs) (λ c κs. search needs) (λ c κs. search needs) (λ c κs. search needs) (λ c κs. search needs) (λ c κs. search needs) returns)
+mul-wide-spec =
+    tie.close
+    (tie.spec (λ c κs. search needs) (λ c κs. search needs) (λ c κs. search needs) (λ c κs. search needs)
+    (λ c κs. search needs) (λ c κs. search needs) (λ c κs. search needs) (λ c κs. search needs) (λ c κs. search needs) returns)

@@ -15,8 +15,9 @@ use Rattle.words.proofs.shifts.power_of_two.Reads as power-of-two
 use Rattle.words.proofs.shifts.+mul_2exp_u64.{statement}
 use Rattle.words.proofs.shifts.+mul_2exp_u64.Tie.{close}
 use Rattle.words.specs.Words.{mulWord}
-use Rattle.words.proofs.Laws.{held}
-use Rattle.words.proofs.PowersOfTwo.{up-none, up-once, up-table, up-negative, up-rest, shift-up-stands}
+use Rattle.words.proofs.Stands.{held}
+use Rattle.words.proofs.Arms.{up-none, up-once, up-table, up-negative, up-rest}
+use Rattle.words.proofs.PowersOfTwo.{shift-up-stands}
 
 abbrev μ : Measures 0 kinds.ps ℕ
 μ κs a = a .1 .0
@@ -31,16 +32,13 @@ pub +mul-2exp-u64-spec : {M : Type 1} → statement M
 +mul-2exp-u64-spec = close μ λ t. lts.spec
     (add.Asked, add.Learnt, power-of-two.Asked, power-of-two.Learnt, mul.Asked, mul.Learnt, neg.Asked, neg.Learnt, below t, mul-2exp-u64.Post)
     (here t) mul-2exp-u64.Post
-    (λ c κs. search needs)
-    (λ c κs. search needs)
-    (λ c κs. search needs)
-    (λ c κs. search needs)
-    (λ c κs. search needs)
-    (λ c κs. search needs)
+    (λ c κs. search needs) (λ c κs. search needs) (λ c κs. search needs)
+    (λ c κs. search needs) (λ c κs. search needs) (λ c κs. search needs)
     (λ c κs. (omega arith, tt))
     (λ c. held (up-none _ _ (c .match .keys1)) (shift-up-stands _ _ (search needs)))
     (λ c. held (c .add .ensures .word ∙ up-once _ _ (c .before .match .keys2)) (shift-up-stands _ _ (search needs)))
     (λ c. held (c .mul .ensures .word ∙ ap (mulWord _) (c .before .power-of-two .ensures) ∙ up-table _ _ (omega arith) (omega arith))
     (shift-up-stands _ _ (search needs)))
-    (λ c. held (cc (up-negative (c .before .before .before .before .before .before .args .x) (c .before .before .before .before .before .before .args .exp) (omega arith) (omega arith))) (shift-up-stands _ _ (search needs)))
+    (λ c. let start = c .before .before .before .before .before .before in
+    held (cc (up-negative (start .args .x) (start .args .exp) (omega arith) (omega arith))) (shift-up-stands _ _ (search needs)))
     (λ c. held (c .mul-2exp-u64 .ensures .word ∙ up-rest _ _) (shift-up-stands _ _ (search needs)))

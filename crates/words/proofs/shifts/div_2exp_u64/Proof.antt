@@ -2,8 +2,9 @@
 use mathlib.Core.Path.{_∙_}
 use native.Mathlib.Omega.{arith}
 use borrow.Author.Needs.{needs}
-use Rattle.words.proofs.Laws.{held}
-use Rattle.words.proofs.PowersOfTwo.{down-none, down-once, down-split, down-up, shift-down-stands}
+use Rattle.words.proofs.Stands.{held}
+use Rattle.words.proofs.Arms.{down-none, down-once, down-split, down-up}
+use Rattle.words.proofs.PowersOfTwo.{shift-down-stands}
 use Rattle.words.proofs.shifts.div_2exp_u64.Statement.{statement}
 use Rattle.words.proofs.shifts.div_2exp_u64.Tie as tie
 

@@ -7,13 +7,18 @@ use Rattle.words.proofs.shifts.div_by_split.Statement.{statement}
 use Rattle.words.proofs.shifts.div_by_split.Tie as tie
 
 shift-left-requires : tie.Need-shift-left-requires
-shift-left-requires c κs = (search needs, omega (arith, low-room _ (search needs) (search needs) 32 _ (search needs) (c .before .low-bits .ensures .1)))
+shift-left-requires c κs =
+    (search needs, omega (arith, low-room _ (search needs) (search needs) 32 _ (search needs) (c .before .low-bits .ensures .1)))
 
 add-a : tie.Need-add-a
 add-a c =
     let lo = c .before .before .low-bits in
     let x = c .before .before .before in
-    omega (arith, low-room _ (search needs) (search needs) 32 _ (search needs) (lo .ensures .1), high-room _ (x .pre .0) (x .pre .1) _ (x .fits .x .fits))
+    omega (
+      arith,
+      low-room _ (search needs) (search needs) 32 _ (search needs) (lo .ensures .1),
+      high-room _ (x .pre .0) (x .pre .1) _ (x .fits .x .fits),
+    )
 
 shift-left-requires-2 : tie.Need-shift-left-requires-2
 shift-left-requires-2 c κs =

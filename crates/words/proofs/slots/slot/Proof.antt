@@ -4,7 +4,8 @@ use Prim.Native.Nat.{ℕ, _%_, _^_}
 use borrow.Author.Needs.{needs}
 use borrow.Author.Tests.{le-leb, lt-leb}
 use Rattle.words.specs.declared.answers.Refusal.the-variants.{Above32}
-use Rattle.words.proofs.Laws.{granted, refused, slot-stands}
+use Rattle.words.proofs.Stands.{granted, refused}
+use Rattle.words.proofs.Laws.{slot-stands}
 use Rattle.words.proofs.slots.slot.Statement.{statement}
 use Rattle.words.proofs.slots.slot.Tie as tie
 
