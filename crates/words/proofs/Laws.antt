@@ -60,7 +60,7 @@ pub neg-stands : (x : ℕ) → x < 2 ^ 64 → Stands ((P - 1) * x % P) (negWord 
 unfolding negWord
 neg-stands x h = record {
   below = omega arith;
-  element = rw (canonical-is x h) (opposite (x % P) (omega arith) ∙ mul-same-right P (P - 1) (x % P) x (mod-mod x P));
+  element = ap (λ (n : ℕ). (P - n) % P) (canonical-is x h) ∙ opposite (x % P) (omega arith) ∙ mul-same-right P (P - 1) (x % P) x (mod-mod x P);
 }
 
 -- a half, by the inverse h of 2

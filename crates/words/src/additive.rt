@@ -69,8 +69,12 @@ pub(crate) fn add_no_canonicalize_trashing_input(x: u64, y: u64) -> u64
     requires { ⌜ x + y < 2 ^ 64 + P ⌝ }
     ensures { λ r. ⌜ r ≡ lessP (x + y) ⌝ }
 {
-    let sum = wrapping_add_u64(x, y);
-    if x <= sum { sum } else { sum + NEG_ORDER }
+    let res_wrapped = wrapping_add_u64(x, y);
+    if x <= res_wrapped {
+        res_wrapped
+    } else {
+        res_wrapped + NEG_ORDER
+    }
 }
 
 // x - y, plus P if it is negative. One correction is enough only where y <= x + P.
@@ -78,10 +82,6 @@ pub(crate) fn sub_once(x: u64, y: u64) -> u64
     requires { ⌜ y ≤ x + P ⌝ }
     ensures { λ r. ⌜ r ≡ plusP x y ⌝ }
 {
-    let difference = wrapping_sub_u64(x, y);
-    if y <= x {
-        difference
-    } else {
-        difference - NEG_ORDER
-    }
+    let taken = wrapping_sub_u64(x, y);
+    if y <= x { taken } else { taken - NEG_ORDER }
 }

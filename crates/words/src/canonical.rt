@@ -51,9 +51,9 @@ pub fn is_zero(x: u64) -> bool
     as_canonical_u64(x) == 0
 }
 
-// The raw word, as it is held. Only this tells two words of one element apart.
-pub fn value(x: u64) -> u64
-    ensures { λ r. ⌜ Held x (x % P) r ⌝ }
+// The raw word, as it is held: two words of one element stay apart here.
+pub fn value(held: u64) -> u64
+    ensures { λ r. ⌜ Held held (held % P) r ⌝ }
 {
-    x
+    held
 }

@@ -7,7 +7,7 @@ use borrow.Fn.Kinds.{In}
 use borrow.Fn.PlainCycle.{Measures, is, falls, and}
 use Rattle.words.proofs.shifts.mul_2exp_u64.Reads as mul-2exp-u64
 use Rattle.words.proofs.shifts.mul_2exp_u64.Kinds as kinds
-use Rattle.words.proofs.shifts.+mul_2exp_u64.Lts-mul_2exp_u64 as lts
+use Rattle.words.proofs.shifts.+mul_2exp_u64.Lts-mul_2exp_u64 as body
 use Rattle.words.proofs.additive.add.Reads as add
 use Rattle.words.proofs.additive.neg.Reads as neg
 use Rattle.words.proofs.product.mul.Reads as mul
@@ -29,7 +29,7 @@ abbrev below : ℕ → In 0 kinds.ps
 below t = and 0 kinds.ps (falls 0 kinds.ps _<_ μ t) mul-2exp-u64.Pre
 
 pub +mul-2exp-u64-spec : {M : Type 1} → statement M
-+mul-2exp-u64-spec = close μ λ t. lts.spec
++mul-2exp-u64-spec = close μ λ t. body.spec
     (add.Asked, add.Learnt, power-of-two.Asked, power-of-two.Learnt, mul.Asked, mul.Learnt, neg.Asked, neg.Learnt, below t, mul-2exp-u64.Post)
     (here t) mul-2exp-u64.Post
     (λ c κs. search needs) (λ c κs. search needs) (λ c κs. search needs)

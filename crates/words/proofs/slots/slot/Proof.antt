@@ -1,6 +1,4 @@
 -- The low bits of the canonical form.
-use mathlib.Core.Path.{ap, _∙_}
-use Prim.Native.Nat.{ℕ, _%_, _^_}
 use borrow.Author.Needs.{needs}
 use borrow.Author.Tests.{le-leb, lt-leb}
 use Rattle.words.specs.declared.answers.Refusal.the-variants.{Above32}
@@ -13,10 +11,7 @@ returns : tie.Need-returns
 returns c = refused _ Above32 (lt-leb _ _ (c .if1 .taken))
 
 returns-2 : tie.Need-returns-2
-returns-2 c =
-    granted _ (le-leb _ _ (c .before .before .if1 .left))
-    (c .low-bits .ensures .0 ∙ ap (λ (n : ℕ). n % 2 ^ c .before .before .before .args .k) (c .before .as-canonical-u64 .ensures .word))
-    (slot-stands _ _ (search needs))
+returns-2 c = granted _ (le-leb _ _ (c .before .before .if1 .left)) (cc) (slot-stands _ _ (search needs))
 
 pub slot-spec : {M : Type 1} → statement M
 slot-spec = tie.close (tie.spec returns (λ c κs. search needs) (λ c κs. search needs) returns-2)
