@@ -16,8 +16,9 @@ pub use words::sub;
 pub use words::neg;
 // Two limbs in one word.
 pub use words::reduce128;
-// x * y, and x * x.
+// x * y: reduce128 of the full product.
 pub use words::mul;
+// x * x.
 pub use words::square;
 // Half of x.
 pub use words::halve;
@@ -26,21 +27,28 @@ pub use words::from_i64;
 // Two limbs, canonical.
 pub use words::from_u128;
 
-// x * 2^exp and x / 2^exp, for any exponent.
-pub use words::div_2exp_u64;
+// x * 2^exp, for any exponent.
 pub use words::mul_2exp_u64;
+// x / 2^exp, for any exponent.
+pub use words::div_2exp_u64;
 
-// Equality, order and is-zero, by canonical forms.
+// Equality, by canonical forms: 0 and P are equal.
+pub use words::eq;
+// Order, by canonical forms.
 pub use words::Ordering;
 pub use words::cmp;
-pub use words::eq;
+// Whether a word is zero, as 0 and P are.
 pub use words::is_zero;
 
 // The low k bits of the canonical form, k up to 32.
 pub use words::slot;
 
-// The canonical form; the checked readers, which take what is canonical; and the raw word.
+// The canonical form, below P.
 pub use words::as_canonical_u64;
-pub use words::from_canonical_checked_i64;
+// The checked u64 reader: a word below P only.
 pub use words::from_canonical_checked_u64;
+// The checked i64 reader: -(2^63 - 2^31) to 2^63 - 2^31 only.
+pub use words::from_canonical_checked_i64;
+
+// The raw word, as it is held.
 pub use words::value;

@@ -20,6 +20,7 @@ pub fn add(x: u64, y: u64) -> u64
     if x <= sum {
         return sum;
     }
+    // The sum wrapped, and 2^64 - P more is P less. That wraps again only where both words are above P.
     let once = wrapping_add_u64(sum, NEG_ORDER);
     if sum <= once {
         return once;
@@ -35,6 +36,7 @@ pub fn sub(x: u64, y: u64) -> u64
     if y <= x {
         return difference;
     }
+    // The difference wrapped, and 2^64 - P less is P more. That wraps again only where y is above P.
     let once = wrapping_sub_u64(difference, NEG_ORDER);
     if NEG_ORDER <= difference {
         return once;

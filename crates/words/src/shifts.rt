@@ -115,7 +115,7 @@ const POWERS_OF_TWO: [u64; 96] = [
     0x7FFF_FFFF_8000_0000,
 ];
 
-// The table's entry.
+// 2^exp modulo P, from the table.
 fn power_of_two(exp: u64) -> u64
     requires { ⌜ exp < 96 ⌝ }
     ensures { λ r. ⌜ r ≡ entry exp ⌝ }
@@ -136,8 +136,8 @@ pub fn mul_2exp_u64(x: u64, exp: u64) -> u64
     }
 }
 
-// x / 2^exp for exp from 1 to 32: with l the low exp bits of x and h the bits above, h + l * 2^(32 - exp) - l * 2^(64 - exp), plus P if negative.
-// Times 2^exp it is x less l * P.
+// x / 2^exp for exp from 1 to 32: with l the low exp bits of x and h the bits above, h + l * 2^(32 - exp) - l * 2^(64 - exp), plus P if
+// negative. Times 2^exp that is x less l * P.
 fn div_by_split(x: u64, exp: u64) -> u64
     requires { ⌜ (1 ≤ exp) × (exp ≤ 32) ⌝ }
     ensures { λ r. ⌜ r ≡ splitWord x exp ⌝ }
