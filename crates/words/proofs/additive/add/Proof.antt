@@ -7,16 +7,16 @@ use Rattle.words.proofs.additive.add.Statement.{statement}
 use Rattle.words.proofs.additive.add.Tie as tie
 
 returns : tie.Need-returns
-returns c = held (add-none _ _ _ (search needs) (search needs) (search needs) (c .if1 .taken)) (add-stands _ _ (search needs) (search needs))
+returns c = held (add-none _ _ _ (search needs) (search needs) (search needs) (search needs)) (add-stands _ _ (search needs) (search needs))
 
 returns-2 : tie.Need-returns-2
 returns-2 c =
-    held (add-one _ _ _ (search needs) (search needs) (c .before .before .before .wrapping-add-u64 .ensures) _ (search needs) (search needs) (c .if2 .taken))
+    held (add-one _ _ _ (search needs) (search needs) (c .before .before .before .wrapping-add-u64 .ensures) _ (search needs) (search needs) (search needs))
     (add-stands _ _ (search needs) (search needs))
 
 returns-3 : tie.Need-returns-3
 returns-3 c =
-    held (add-two _ _ _ (search needs) (search needs) (c .before .before .before .wrapping-add-u64 .ensures) _ (search needs) (search needs) (c .if2 .left))
+    held (add-two _ _ _ (search needs) (search needs) (c .before .before .before .wrapping-add-u64 .ensures) _ (search needs) (search needs) (search needs))
     (add-stands _ _ (search needs) (search needs))
 
 pub add-spec : {M : Type 1} → statement M

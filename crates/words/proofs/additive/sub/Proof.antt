@@ -7,16 +7,16 @@ use Rattle.words.proofs.additive.sub.Statement.{statement}
 use Rattle.words.proofs.additive.sub.Tie as tie
 
 returns : tie.Need-returns
-returns c = held (sub-none _ _ _ (search needs) (search needs) (search needs) (search needs) (c .if1 .taken)) (sub-stands _ _ (search needs) (search needs))
+returns c = held (sub-none _ _ _ (search needs) (search needs) (search needs) (search needs) (search needs)) (sub-stands _ _ (search needs) (search needs))
 
 returns-2 : tie.Need-returns-2
 returns-2 c =
-    held (sub-one _ _ _ (search needs) (search needs) (search needs) (c .before .before .before .wrapping-sub-u64 .ensures) _ (search needs) (search needs) (search needs) (c .if2 .taken))
+    held (sub-one _ _ _ (search needs) (search needs) (search needs) (c .before .before .before .wrapping-sub-u64 .ensures) _ (search needs) (search needs) (search needs) (search needs))
     (sub-stands _ _ (search needs) (search needs))
 
 returns-3 : tie.Need-returns-3
 returns-3 c =
-    held (sub-two _ _ _ (search needs) (search needs) (search needs) (c .before .before .before .wrapping-sub-u64 .ensures) _ (search needs) (search needs) (search needs) (c .if2 .left))
+    held (sub-two _ _ _ (search needs) (search needs) (search needs) (c .before .before .before .wrapping-sub-u64 .ensures) _ (search needs) (search needs) (search needs) (search needs))
     (sub-stands _ _ (search needs) (search needs))
 
 pub sub-spec : {M : Type 1} → statement M

@@ -8,10 +8,10 @@ use Rattle.words.proofs.slots.slot.Statement.{statement}
 use Rattle.words.proofs.slots.slot.Tie as tie
 
 returns : tie.Need-returns
-returns c = refused _ Above32 (lt-leb _ _ (c .if1 .taken))
+returns c = refused _ Above32 (lt-leb (c .before .args .k) 32 (search needs))
 
 returns-2 : tie.Need-returns-2
-returns-2 c = granted _ (le-leb _ _ (c .before .before .if1 .left)) (cc) (slot-stands _ _ (search needs))
+returns-2 c = granted _ (le-leb (c .before .before .before .args .k) 32 (search needs)) (cc) (slot-stands _ _ (search needs))
 
 pub slot-spec : {M : Type 1} → statement M
 slot-spec = tie.close (tie.spec returns (λ c κs. search needs) (λ c κs. search needs) returns-2)
