@@ -1,4 +1,5 @@
-// The port's table of contents: every public operation of document 01, in its order. Each keeps the contract of the crate that proves it.
+// The port's table of contents: the public operations of document 01 that are ported so far, in its order. Each keeps the contract of the
+// crate that proves it.
 // A word is any u64 and stands for the element x mod P; no operation asks anything of its caller.
 
 // P, 2^64 - 2^32 + 1.

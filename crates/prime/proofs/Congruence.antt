@@ -2,7 +2,7 @@
 use mathlib.Core.Path.{_≡_, sym, ap, _∙_}
 use Prim.Native.Nat.{ℕ, _+_, _*_, _%_, _/_}
 use native.Mathlib.Omega.{arith}
-use native.Mathlib.Nat.{div-add-mod, add-mul-mod-self-left, mul-mod-right, add-mod, mul-comm, zero-mul, mod-mod, zero-mod}
+use native.Mathlib.Nat.{div-add-mod, add-mul-mod-self-left, mul-mod-right, add-mod, mul-comm, mul-assoc, mul-one, zero-mul, mod-mod, zero-mod}
 use Rattle.prime.specs.Residues.{Multiple}
 
 -- numbers that differ by multiples of m are the same modulo m, and the other way round
@@ -39,3 +39,8 @@ mul-mod m a b = mul-same m a b (a % m) (b % m) (sym (mod-mod a m)) (sym (mod-mod
 -- 0 times anything is 0
 pub zero-times : (m a b : ℕ) → a % m ≡ 0 → a * b % m ≡ 0
 zero-times m a b e = mul-same-left m a 0 b (e ∙ sym (zero-mod m)) ∙ ap (λ (x : ℕ). x % m) (zero-mul b) ∙ zero-mod m
+
+-- a factor and its inverse cancel
+pub times-one : (m x a b : ℕ) → a * b % m ≡ 1 % m → x * a * b % m ≡ x % m
+times-one m x a b h =
+    ap (λ (n : ℕ). n % m) (mul-assoc x a b) ∙ mul-same-right m x (a * b) 1 h ∙ ap (λ (n : ℕ). n % m) (mul-one x)

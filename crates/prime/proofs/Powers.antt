@@ -95,3 +95,8 @@ power-times m x d k big e = power-mul m x d k ∙ ap (λ (y : ℕ). power m y k)
 pub power-more : (m x d k : ℕ) → power m x k ≡ 1 → power m x (d + k) ≡ power m x d
 power-more m x d k e =
     power-add m x d k ∙ ap (λ (y : ℕ). power m x d * y % m) e ∙ ap (λ (y : ℕ). y % m) (mul-one (power m x d)) ∙ power-mod m x d
+
+-- where x^d = 1, x^e goes by the remainder of e by d
+pub power-period : (m x d e : ℕ) → 1 < m → power m x d ≡ 1 → power m x (e % d) ≡ power m x e
+power-period m x d e big h =
+    sym (power-more m x (e % d) (d * (e / d)) (power-times m x d (e / d) big h)) ∙ ap (power m x) (mod-add-div e d)

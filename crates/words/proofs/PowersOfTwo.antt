@@ -1,14 +1,14 @@
 -- Shifts by powers of two, up and down. Modulo P, 2^96 is -1 and 2^192 is 1, and a half is the inverse of 2.
 use mathlib.Core.Path.{_≡_, refl, sym, ap, _∙_}
 use Prim.Native.Nat.{ℕ, _+_, _-_, _*_, _/_, _%_, _^_, _<_, _≤_}
-use native.Mathlib.Nat.{mod-add-div, mod-lt, mod-mod, mul-one, mul-comm, mul-assoc, mul-le-mul-right, lt-of-lt-of-le}
+use native.Mathlib.Nat.{mod-lt, mod-mod, mul-one, mul-comm, mul-le-mul-right, lt-of-lt-of-le}
 use native.Mathlib.Omega.{arith}
 use lib.Dec.{lit<}
 use lib.Pow.{pow-add, pow-mono, pow-pos, shr-lt, split}
 use Rattle.prime.specs.Modulus.{P}
 use Rattle.prime.specs.Powers.{power}
-use Rattle.prime.proofs.Congruence.{same, mul-same-left, mul-same-right}
-use Rattle.prime.proofs.Powers.{power-same, power-of-one, power-times, power-more}
+use Rattle.prime.proofs.Congruence.{same, mul-same-left, mul-same-right, times-one}
+use Rattle.prime.proofs.Powers.{power-same, power-of-one, power-period}
 use Rattle.prime.proofs.Theorems.{power-is, power-add, power-base, two-96, two-192}
 use Rattle.words.specs.Elements.{half}
 use Rattle.words.specs.Words.{entry, negWord, upWord, shiftUpWord, splitWord, downWord, shiftDownWord}
@@ -17,21 +17,11 @@ use Rattle.words.proofs.Stands.{Stands, itself, to}
 use Rattle.words.proofs.Corrections.{plus-stands}
 use Rattle.words.proofs.Laws.{add-stands, neg-stands, mul-stands, halve-stands}
 
--- a power whose d-th is 1 goes by the remainder of its exponent by d
-period : (x d e : ℕ) → power P x d ≡ 1 → power P x (e % d) ≡ power P x e
-period x d e h =
-    sym (power-more P x (e % d) (d * (e / d)) (power-times P x d (e / d) (lit< tt) h)) ∙ ap (power P x) (mod-add-div e d)
-
 two-period : power P 2 192 ≡ 1
 two-period = power-is 2 192 ∙ two-192
 
 half-period : power P half 192 ≡ 1
 half-period = power-is half 192
-
--- x·a·b is x where a·b is 1
-times-one : (x a b : ℕ) → a * b % P ≡ 1 → x * a * b % P ≡ x % P
-times-one x a b h =
-    ap (λ (n : ℕ). n % P) (mul-assoc x a b) ∙ mul-same-right P x (a * b) 1 h ∙ ap (λ (n : ℕ). n % P) (mul-one x)
 
 halves-undo : (e : ℕ) → power P 2 e * power P half e % P ≡ 1
 halves-undo e = sym (power-base 2 half e) ∙ power-same P (2 * half) 1 e refl ∙ power-of-one P e
@@ -39,7 +29,7 @@ halves-undo e = sym (power-base 2 half e) ∙ power-same P (2 * half) 1 e refl �
 -- so what times 2^e is x, is x times the e-th power of a half
 undo : (x e r : ℕ) → r * power P 2 e % P ≡ x % P → r % P ≡ x * power P half e % P
 undo x e r h =
-    sym (times-one r (power P 2 e) (power P half e) (halves-undo e)) ∙ mul-same-left P (r * power P 2 e) x (power P half e) h
+    sym (times-one P r (power P 2 e) (power P half e) (halves-undo e)) ∙ mul-same-left P (r * power P 2 e) x (power P half e) h
 
 -- the shift up
 
@@ -67,7 +57,7 @@ up-stands x e h =
 
 pub shift-up-stands : (x e : ℕ) → x < 2 ^ 64 → Stands (x * power P 2 e % P) (shiftUpWord x e)
 unfolding shiftUpWord
-shift-up-stands x e h = to (ap (λ (n : ℕ). x * n % P) (period 2 192 e two-period)) (up-stands x (e % 192) h)
+shift-up-stands x e h = to (ap (λ (n : ℕ). x * n % P) (power-period P 2 192 e (lit< tt) two-period)) (up-stands x (e % 192) h)
 
 -- the shift down by 1 to 32, with l the low e bits and h the bits above
 
@@ -119,14 +109,14 @@ down-stands x e h k =
     by-eq (Stands (x * power P half e % P)) e 0 (λ t. to (rw (t, power-is half 0, mul-one x)) (itself x h))
     (λ n. by-eq (Stands (x * power P half e % P)) e 1 (λ t. to (rw (t, power-is half 1)) (halve-stands x h))
     (λ o. by-le (Stands (x * power P half e % P)) e 32 (λ t. split-stands e (omega arith) t x h)
-    (λ t. to (undo x e (x * power P 2 (192 - e)) (times-one x (power P 2 (192 - e)) (power P 2 e) around)) (up-stands x (192 - e) h))))
+    (λ t. to (undo x e (x * power P 2 (192 - e)) (times-one P x (power P 2 (192 - e)) (power P 2 e) around)) (up-stands x (192 - e) h))))
   where
     around : power P 2 (192 - e) * power P 2 e % P ≡ 1
     around = sym (power-add 2 (192 - e) e) ∙ ap (power P 2) (let r : 192 - e + e ≡ 192 = omega arith in r) ∙ two-period
 
 pub shift-down-stands : (x e : ℕ) → x < 2 ^ 64 → Stands (x * power P half e % P) (shiftDownWord x e)
 unfolding shiftDownWord
-shift-down-stands x e h = to (ap (λ (n : ℕ). x * n % P) (period half 192 e half-period)) (down-stands x (e % 192) h (mod-lt e (lit< tt)))
+shift-down-stands x e h = to (ap (λ (n : ℕ). x * n % P) (power-period P half 192 e (lit< tt) half-period)) (down-stands x (e % 192) h (mod-lt e (lit< tt)))
 
 -- shifts by e and by e + 192 agree, and each shift undoes the other
 
@@ -139,7 +129,7 @@ unfolding shiftDownWord
 shift-down-again x e = ap (downWord x) (omega arith)
 
 there-and-back : (x a b r : ℕ) → a * b % P ≡ 1 → r % P ≡ x * a % P → r * b % P ≡ x % P
-there-and-back x a b r h e = mul-same-left P r (x * a) b e ∙ times-one x a b h
+there-and-back x a b r h e = mul-same-left P r (x * a) b e ∙ times-one P x a b h
 
 pub down-undoes-up : (x e : ℕ) → x < 2 ^ 64 → shiftDownWord (shiftUpWord x e) e % P ≡ x % P
 down-undoes-up x e h =

@@ -1,9 +1,9 @@
 -- Signed numbers of 64 bits: what the machine reads after a test of the sign, and the words that they give.
 use mathlib.Core.Path.{_≡_, refl, sym, ap, _∙_}
 use mathlib.Core.Bool.{true, false, true≢false, false≢true}
-use lib.Dec.{leb·zero}
-use Prim.Native.Nat.{ℕ, suc, _+_, _-_, _^_, _≤_}
+use Prim.Native.Nat.{suc, _+_, _-_, _^_, _≤_}
 use native.Mathlib.Omega.{arith}
+use lib.Dec.{leb·zero}
 use lib.IntN.{ℤ, pos, negsuc}
 use lib.Signed.{leZ, ltZ}
 use borrow.Author.Tests.{ltb-true, ltb-false, le-leb, lt-leb}
@@ -12,7 +12,7 @@ use mir.Val.{SFits, toZ, ofZ}
 use mir.ValLaws.{toZ-ofZ, toZ-pos}
 use Rattle.prime.specs.Modulus.{P}
 use Rattle.words.specs.Elements.{residue}
-use Rattle.words.specs.Words.{fromI64Word, inRange}
+use Rattle.words.specs.Words.{fromI64Word, bound, inRange}
 use Rattle.words.proofs.Stands.{Stands}
 use Rattle.words.proofs.Laws.{opposite}
 
@@ -36,8 +36,6 @@ negative (negsuc n) f t = (
 )
 
 -- the tests of the checked reader
-abbrev bound : ℕ
-bound = 2 ^ 63 - 2 ^ 31
 
 pub below-range : (z : ℤ) → SFits w64 z → ltZ (toZ w64 (ofZ w64 z)) (negsuc (bound - 1)) ≡ true → inRange z ≡ false
 below-range (pos n) f t = absurd (false≢true (rw (toZ-ofZ w64 (pos n) f) at t))

@@ -82,7 +82,11 @@ downWord x e =
 unfoldable pub shiftDownWord : ℕ → ℕ → ℕ
 shiftDownWord x e = downWord x (e % 192)
 
+-- How far from zero the checked i64 reader goes on either side.
+abbrev pub bound : ℕ
+bound = 2 ^ 63 - 2 ^ 31
+
 -- The checked i64 reader accepts "exactly -(2^63-2^31) to 2^63-2^31, both ends included".
 abbrev pub inRange : ℤ → Bool
-inRange (pos n) = leb n (2 ^ 63 - 2 ^ 31)
-inRange (negsuc n) = leb (n + 1) (2 ^ 63 - 2 ^ 31)
+inRange (pos n) = leb n bound
+inRange (negsuc n) = leb (n + 1) bound
