@@ -1,10 +1,10 @@
 -- The rules of the shifts, at each arm of the code's match on the exponent.
 use mathlib.Core.Path.{_≡_, ap}
-use Prim.Native.Nat.{ℕ, _-_, _%_, _<_, _≤_}
+use Prim.Native.Nat.{ℕ, _+_, _-_, _*_, _/_, _%_, _^_, _<_, _≤_}
 use native.Mathlib.Nat.{mod-mod, mod-eq-of-lt}
 use native.Mathlib.Omega.{arith}
 use borrow.Author.Tests.{lt-ltb, le-ltb, le-leb, lt-leb, ne-eqb}
-use Rattle.words.specs.Words.{entry, addWord, negWord, mulWord, halveWord, upWord, shiftUpWord, splitWord, downWord, shiftDownWord}
+use Rattle.words.specs.Words.{plusP, entry, addWord, negWord, mulWord, halveWord, upWord, shiftUpWord, splitWord, downWord, shiftDownWord}
 
 module _ (x e : ℕ) where
   pub up-none : e ≡ 0 → x ≡ shiftUpWord x e
@@ -43,3 +43,8 @@ module _ (x e : ℕ) where
   unfolding shiftUpWord downWord shiftDownWord
   down-up h =
       rw (ne-eqb (e % 192) 0 (omega arith), ne-eqb (e % 192) 1 (omega arith), lt-leb (e % 192) 32 h) (ap (upWord x) (mod-eq-of-lt (omega arith)))
+
+-- the steps of `div_by_split`
+pub split-steps : (x e l h s b : ℕ) → l ≡ x % 2 ^ e → h ≡ x / 2 ^ e → s ≡ l * 2 ^ (32 - e) → b ≡ l * 2 ^ (64 - e) → plusP (h + s) b ≡ splitWord x e
+unfolding splitWord
+split-steps x e l h s b p q u v = rw (v, u, q, p)

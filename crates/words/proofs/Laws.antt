@@ -1,5 +1,5 @@
 -- What those above may know of the words that are answered: each is below 2^64, and modulo P it is what arithmetic says.
-use mathlib.Core.Path.{_≡_, refl, ap, _∙_}
+use mathlib.Core.Path.{_≡_, refl, ap, ap₂, _∙_}
 use mathlib.Core.Bool.{true}
 use mathlib.Core.Logic.{_↔_}
 use Prim.Native.Nat.{ℕ, _+_, _-_, _*_, _/_, _%_, _^_, _<_, _≤_}
@@ -31,7 +31,10 @@ canonical-stands x h = record { below = omega (arith, canonical-is x h); element
 -- so what is seen by canonical forms is seen by the elements
 pub seen : {A : Type 0} (f : ℕ → ℕ → A) (x y : ℕ) {a b : ℕ} {r : A} → x < 2 ^ 64 → y < 2 ^ 64 → a ≡ canonical x → b ≡ canonical y → r ≡ f a b
     → Seen (f (canonical x) (canonical y)) (f (x % P) (y % P)) r
-seen f x y h k p q e = record { canonical = cc; element = cc (canonical-is x h, canonical-is y k) }
+seen f x y h k p q e = record {
+  canonical = e ∙ ap₂ f p q;
+  element = e ∙ ap₂ f (p ∙ canonical-is x h) (q ∙ canonical-is y k);
+}
 
 -- and words are equal exactly if they agree modulo P
 pub equal-iff : (x y : ℕ) → x < 2 ^ 64 → y < 2 ^ 64 → (eqb (canonical x) (canonical y) ≡ true) ↔ (x % P ≡ y % P)

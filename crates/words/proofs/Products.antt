@@ -1,10 +1,11 @@
 -- Products of two words by halves of 32 bits, in two limbs.
-use mathlib.Core.Path.{_≡_, subst⁻¹}
+use mathlib.Core.Path.{_≡_, ap₂, subst⁻¹}
 use Prim.Native.Nat.{ℕ, _+_, _-_, _*_, _/_, _%_, _^_, _<_, _≤_}
 use native.Mathlib.Nat.{le-of-lt, lt-of-le-of-lt, mul-le-mul, mul-le-mul-left, mul-lt-mul-of-pos-right, div-add-mod, mod-add-div}
 use native.Mathlib.Omega.{arith}
 use lib.Pow.{pow-add, pow-pos}
 use Rattle.words.specs.Limbs.{limbs, partial}
+use Rattle.words.specs.Words.{lessP, plusP, reduceWord}
 
 pub product-below : (k : ℕ) {a b : ℕ} → a < 2 ^ k → b < 2 ^ k → a * b < 2 ^ (k + k)
 product-below k {a} {b} h i =
@@ -42,3 +43,12 @@ limb-low lo hi n h e = omega arith
 pub limb-high : (lo hi n : ℕ) → lo < 2 ^ 64 → limbs lo hi ≡ n → hi ≡ n / 2 ^ 64
 unfolding limbs
 limb-high lo hi n h e = omega arith
+
+-- so a reduction of limbs is that of the number's
+pub reduce-limbs : (lo hi n : ℕ) → lo < 2 ^ 64 → limbs lo hi ≡ n → reduceWord lo hi ≡ reduceWord (n % 2 ^ 64) (n / 2 ^ 64)
+reduce-limbs lo hi n h e = ap₂ reduceWord (limb-low lo hi n h e) (limb-high lo hi n h e)
+
+-- the steps of `reduce128`
+pub reduced : (lo hi h l t0 t1 : ℕ) → h ≡ hi / 2 ^ 32 → t0 ≡ plusP lo h → l ≡ hi % 2 ^ 32 → t1 ≡ l * (2 ^ 32 - 1) → lessP (t0 + t1) ≡ reduceWord lo hi
+unfolding reduceWord
+reduced lo hi h l t0 t1 a b c d = rw (d, c, b, a)

@@ -25,6 +25,10 @@ to h s = record { below = s .below; element = s .element ∙ h }
 pub held : {e w r : ℕ} → r ≡ w → Stands e w → Held w e r
 held f s = record { word = f; element = ap (λ (n : ℕ). n % P) f ∙ s .element }
 
+-- what is answered of a word that another step has answered
+pub through : (f : ℕ → ℕ) {r a w : ℕ} → a ≡ w → r ≡ f a → r ≡ f w
+through f e g = g ∙ ap f e
+
 -- an answer that is given, and one that is refused
 pub granted : (t : Bool) {n w e v : ℕ} → t ≡ true → v ≡ w → Stands e w → Answered t n w e (Word v)
 granted true {v = v} h f s = record { refusal = refl; word = f; element = held f s .element }

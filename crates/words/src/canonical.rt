@@ -19,7 +19,9 @@ pub fn as_canonical_u64(x: u64) -> u64
 pub fn eq(x: u64, y: u64) -> bool
     ensures { λ r. ⌜ Seen (eqb (canonical x) (canonical y)) (eqb (x % P) (y % P)) r ⌝ }
 {
-    as_canonical_u64(x) == as_canonical_u64(y)
+    let a = as_canonical_u64(x);
+    let b = as_canonical_u64(y);
+    a == b
 }
 
 // How two elements compare.
@@ -48,7 +50,8 @@ pub fn cmp(x: u64, y: u64) -> Ordering
 pub fn is_zero(x: u64) -> bool
     ensures { λ r. ⌜ Seen (eqb (canonical x) 0) (eqb (x % P) 0) r ⌝ }
 {
-    as_canonical_u64(x) == 0
+    let a = as_canonical_u64(x);
+    a == 0
 }
 
 // The raw word, as it is held: two words of one element stay apart here.

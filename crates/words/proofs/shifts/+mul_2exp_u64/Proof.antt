@@ -1,5 +1,5 @@
 -- Each arm of the match is the rule; the exponent of the call in the last arm is below 192, and so smaller.
-use mathlib.Core.Path.{ap, _∙_}
+use mathlib.Core.Path.{ap, ap₂, _∙_}
 use Prim.Native.Nat.{ℕ, _<_}
 use native.Mathlib.Omega.{arith}
 use borrow.Author.Needs.{needs}
@@ -39,6 +39,8 @@ pub +mul-2exp-u64-spec : {M : Type 1} → statement M
     (λ c. held (c .add .ensures .word ∙ up-once _ _ (c .before .match .keys2)) (shift-up-stands _ _ (search needs)))
     (λ c. held (c .mul .ensures .word ∙ ap (mulWord _) (c .before .power-of-two .ensures) ∙ up-table _ _ (omega arith) (omega arith))
     (shift-up-stands _ _ (search needs)))
-    (λ c. let start = c .before .before .before .before .before .before in
-    held (cc (up-negative (start .args .x) (start .args .exp) (omega arith) (omega arith))) (shift-up-stands _ _ (search needs)))
+    (λ c. held
+    (c .mul2 .ensures .word ∙ ap₂ mulWord (c .before .before .neg .ensures .word) (c .before .power-of-two2 .ensures)
+    ∙ up-negative _ _ (omega arith) (omega arith))
+    (shift-up-stands _ _ (search needs)))
     (λ c. held (c .mul-2exp-u64 .ensures .word ∙ up-rest _ _) (shift-up-stands _ _ (search needs)))

@@ -1,7 +1,8 @@
 -- The parts have room, and the code is the rule.
+use mathlib.Core.Path.{_∙_}
 use borrow.Author.Needs.{needs}
 use native.Mathlib.Omega.{arith}
-use Rattle.words.specs.Words.{splitWord}
+use Rattle.words.proofs.Arms.{split-steps}
 use Rattle.words.proofs.PowersOfTwo.{low-room, high-room, taken-room}
 use Rattle.words.proofs.shifts.div_by_split.Statement.{statement}
 use Rattle.words.proofs.shifts.div_by_split.Tie as tie
@@ -28,8 +29,11 @@ sub-once-requires : tie.Need-sub-once-requires
 sub-once-requires c κs = omega (arith, taken-room _ (search needs) (search needs) _ (c .before .before .before .low-bits .ensures .1))
 
 returns : tie.Need-returns
-unfolding splitWord
-returns c = cc
+returns c =
+    let high = c .before .before .before in
+    c .sub-once .ensures
+    ∙ split-steps _ _ _ _ _ _ (high .before .low-bits .ensures .0) (high .high-bits .ensures .0)
+    (c .before .before .shift-left .ensures) (c .before .shift-left2 .ensures)
 
 pub div-by-split-spec : {M : Type 1} → statement M
 div-by-split-spec =
