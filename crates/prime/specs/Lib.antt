@@ -3,5 +3,6 @@ pub mod Modulus
 pub mod Lists
 pub mod Powers
 pub mod Residues
+pub mod Search
 pub mod Certificate
 pub mod Polynomials
