@@ -12,7 +12,7 @@ use Rattle.prime.specs.Modulus.{P}
 use Rattle.prime.proofs.Congruence.{same, add-same, mul-same-right}
 use Rattle.words.specs.Elements.{half}
 use Rattle.words.specs.Limbs.{limbs}
-use Rattle.words.specs.Words.{canonical, lessP, plusP, addWord, subWord, negWord, reduceWord, mulWord, halveWord, fromU128Word}
+use Rattle.words.specs.Words.{canonical, lessP, plusP, addWord, subWord, negWord, reduceWord, wideWord, mulWord, halveWord, fromU128Word}
 use Rattle.words.specs.Promises.{Seen}
 use Rattle.words.proofs.Choice.{by-lt, by-le, by-eq}
 use Rattle.words.proofs.Stands.{Stands, to}
@@ -92,11 +92,13 @@ reduce-stands lo hi h k = whole (plusP lo (hi / 2 ^ 32)) (plus-stands lo (hi / 2
       element = less-element _ ∙ folded t lo hi (s .element);
     }
 
+pub wide-stands : (n : ℕ) → n < 2 ^ 128 → Stands (n % P) (wideWord n)
+unfolding limbs
+wide-stands n h = rw (mod-add-div n (2 ^ 64)) at (reduce-stands (n % 2 ^ 64) (n / 2 ^ 64) (mod-lt n (pow-pos 64)) (shr-lt 64 64 h))
+
 pub mul-stands : (x y : ℕ) → x < 2 ^ 64 → y < 2 ^ 64 → Stands (x * y % P) (mulWord x y)
-unfolding limbs mulWord
-mul-stands x y h k =
-    rw (mod-add-div (x * y) (2 ^ 64))
-    at (reduce-stands (x * y % 2 ^ 64) (x * y / 2 ^ 64) (mod-lt (x * y) (pow-pos 64)) (shr-lt 64 64 (product-below 64 h k)))
+unfolding mulWord
+mul-stands x y h k = wide-stands (x * y) (product-below 64 h k)
 
 pub from-u128-stands : (lo hi : ℕ) → lo < 2 ^ 64 → hi < 2 ^ 64 → Stands (limbs lo hi % P) (fromU128Word lo hi)
 unfolding fromU128Word

@@ -4,6 +4,8 @@ pub mod Stands
 pub mod Corrections
 pub mod Products
 pub mod Tables
+pub mod Carries
+pub mod Totals
 pub mod Laws
 pub mod Arms
 pub mod PowersOfTwo

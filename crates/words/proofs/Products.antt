@@ -5,7 +5,7 @@ use native.Mathlib.Nat.{le-of-lt, lt-of-le-of-lt, mul-le-mul, mul-le-mul-left, m
 use native.Mathlib.Omega.{arith}
 use lib.Pow.{pow-add, pow-pos}
 use Rattle.words.specs.Limbs.{limbs, partial}
-use Rattle.words.specs.Words.{lessP, plusP, reduceWord}
+use Rattle.words.specs.Words.{lessP, plusP, reduceWord, wideWord}
 
 pub product-below : (k : ℕ) {a b : ℕ} → a < 2 ^ k → b < 2 ^ k → a * b < 2 ^ (k + k)
 product-below k {a} {b} h i =
@@ -45,7 +45,7 @@ unfolding limbs
 limb-high lo hi n h e = omega arith
 
 -- so a reduction of limbs is that of the number's
-pub reduce-limbs : (lo hi n : ℕ) → lo < 2 ^ 64 → limbs lo hi ≡ n → reduceWord lo hi ≡ reduceWord (n % 2 ^ 64) (n / 2 ^ 64)
+pub reduce-limbs : (lo hi n : ℕ) → lo < 2 ^ 64 → limbs lo hi ≡ n → reduceWord lo hi ≡ wideWord n
 reduce-limbs lo hi n h e = ap₂ reduceWord (limb-low lo hi n h e) (limb-high lo hi n h e)
 
 -- the steps of `reduce128`

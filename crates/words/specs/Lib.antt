@@ -2,6 +2,7 @@
 pub mod Elements
 pub mod Limbs
 pub mod Words
+pub mod Sums
 pub mod Orders
 pub mod Answers
 pub mod Promises

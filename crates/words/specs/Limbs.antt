@@ -8,3 +8,7 @@ limbs lo hi = lo + 2 ^ 64 * hi
 -- The largest product of two numbers of 32 bits.
 abbrev pub partial : ℕ
 partial = (2 ^ 32 - 1) * (2 ^ 32 - 1)
+
+-- The largest product of two words.
+abbrev pub largest : ℕ
+largest = (2 ^ 64 - 1) * (2 ^ 64 - 1)

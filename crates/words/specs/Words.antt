@@ -33,9 +33,13 @@ negWord x = P - canonical x
 unfoldable pub reduceWord : ℕ → ℕ → ℕ
 reduceWord lo hi = lessP (plusP lo (hi / 2 ^ 32) + hi % 2 ^ 32 * (2 ^ 32 - 1))
 
+-- "reduce of" a whole number: of its two limbs.
+abbrev pub wideWord : ℕ → ℕ
+wideWord n = reduceWord (n % 2 ^ 64) (n / 2 ^ 64)
+
 -- "mul x, y": reduce of the full 128-bit product; square is mul x, x.
 unfoldable pub mulWord : ℕ → ℕ → ℕ
-mulWord x y = reduceWord (x * y % 2 ^ 64) (x * y / 2 ^ 64)
+mulWord x y = wideWord (x * y)
 
 -- "halve x": x/2 if the word is even, else (x+P)/2.
 unfoldable pub halveWord : ℕ → ℕ

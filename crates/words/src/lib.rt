@@ -8,6 +8,7 @@ mod conversions;
 mod product;
 mod shifts;
 mod slots;
+mod sums;
 
 pub use answers::Answer;
 pub use answers::Refusal;
@@ -30,6 +31,10 @@ pub use additive::sub;
 pub use product::mul;
 pub use product::reduce128;
 pub use product::square;
+
+// Sums and dot products.
+pub use sums::dot_product;
+pub use sums::sum_array;
 
 // Shifts by powers of two.
 pub use shifts::div_2exp_u64;

@@ -1,0 +1,98 @@
+-- Sums of numbers in two limbs, with the carry between them; and the sum of two products, which may pass 2^128.
+use mathlib.Core.Path.{_≡_, refl, sym, ap, _∙_}
+use Prim.Native.Nat.{ℕ, _+_, _-_, _*_, _/_, _%_, _^_, _<_, _≤_}
+use native.Mathlib.Nat.{add-le-add, le-add-left, le-add-right, lt-of-le-of-lt, div-lt-iff-lt-mul, mod-lt, mod-add-div, add-right-comm}
+use native.Mathlib.Omega.{arith}
+use lib.Dec.{lit<, eqb→eq}
+use lib.Pow.{shr-lt, pow-pos}
+use borrow.Author.Tests.{lt-ltb, le-ltb}
+use Rattle.words.specs.Limbs.{limbs, partial, largest}
+use Rattle.words.specs.Sums.{offset, lessOffset}
+
+-- a word as a number in two limbs
+pub limbs-word : (w : ℕ) → limbs w 0 ≡ w
+unfolding limbs
+limbs-word w = omega arith
+
+upper-limb : (a b : ℕ) → limbs a b / 2 ^ 64 ≡ b + a / 2 ^ 64
+unfolding limbs
+upper-limb a b = omega arith
+
+limbs-below : (lo hi : ℕ) → lo < 2 ^ 64 → hi < 2 ^ 64 → limbs lo hi < 2 ^ 128
+limbs-below lo hi h k = div-lt-iff-lt-mul {y = 2 ^ 64} (pow-pos 64) .0 (rw (upper-limb lo hi) (omega arith))
+
+-- the two parts of a number at its bit 96
+module _ (lo hi : ℕ) (h : lo < 2 ^ 64) where
+  pub low-part : {r : ℕ} → r ≡ hi % 2 ^ 32 → limbs lo r ≡ limbs lo hi % 2 ^ 96
+  unfolding limbs
+  low-part e = omega arith
+
+  pub high-part : hi / 2 ^ 32 ≡ limbs lo hi / 2 ^ 96
+  unfolding limbs
+  high-part = omega arith
+
+-- the sum of a, b and c, d
+module _ (a b c d : ℕ) where
+  upper-sum : (limbs a b + limbs c d) / 2 ^ 64 ≡ b + d + (a + c) / 2 ^ 64
+  unfolding limbs
+  upper-sum = omega arith
+
+  pub upper-fits : limbs a b + limbs c d < 2 ^ 128 → b + d + (a + c) / 2 ^ 64 < 2 ^ 64
+  upper-fits h = rw upper-sum at (shr-lt 64 64 h)
+
+  pub summed : {lo carry : ℕ} → lo ≡ (a + c) % 2 ^ 64 → carry ≡ (a + c) / 2 ^ 64 → limbs lo (b + d + carry) ≡ limbs a b + limbs c d
+  unfolding limbs
+  summed e f = omega arith
+
+-- the upper limb of a product is no largest word, so that a carry can be added to it
+product-upper : (a b : ℕ) → limbs a b ≤ largest → b < 2 ^ 64 - 1
+product-upper a b h =
+    lt-of-le-of-lt (le-add-right b (a / 2 ^ 64))
+    (rw (upper-limb a b) at (div-lt-iff-lt-mul {y = 2 ^ 64 - 1} (pow-pos 64) .1 (lt-of-le-of-lt h (lit< tt))))
+
+carry-below : (a c carry : ℕ) → a < 2 ^ 64 → c < 2 ^ 64 → carry ≡ (a + c) / 2 ^ 64 → carry ≤ 1
+carry-below a c carry h k e = omega arith
+
+pub carry-fits : (a b c carry : ℕ) → limbs a b ≤ largest → a < 2 ^ 64 → c < 2 ^ 64 → carry ≡ (a + c) / 2 ^ 64 → b + carry < 2 ^ 64
+carry-fits a b c carry p h k e = omega (arith, product-upper a b p, carry-below a c carry h k e)
+
+-- a sum that wraps at b², and what is added in its stead: b² is o + n
+wrapped : (a b c d lo carry hi w : ℕ) → a + c ≡ lo + w * carry → b + carry + d ≡ hi + w → a + w * b + (c + w * d) ≡ lo + w * hi + w * w
+wrapped a b c d lo carry hi w e f = omega (arith, ap (λ (n : ℕ). w * n) f)
+
+instead : (s l w o n : ℕ) → s ≡ l + w → w ≡ o + n → l + n ≡ s - o
+instead s l w o n e f = omega arith
+
+room : (s l w m n : ℕ) → s ≡ l + w → s ≤ m → m + n < w + w → l + n < w
+room s l w m n e h k = omega arith
+
+within : (s : ℕ) → s < 2 ^ 128 → lessOffset s ≡ s
+within s h = simp (lt-ltb s (2 ^ 128) h)
+
+beyond : (s : ℕ) → 2 ^ 128 ≤ s → lessOffset s ≡ s - offset
+beyond s h = simp (le-ltb s (2 ^ 128) h)
+
+module _ (u d hi : ℕ) (g : hi ≡ (u + d) % 2 ^ 64) (k : d < 2 ^ 64) where
+  wraps-not : u ≤ hi → hi ≡ u + d
+  wraps-not h = omega arith
+
+  wraps-once : u < 2 ^ 64 → hi < u → u + d ≡ hi + 2 ^ 64
+  wraps-once i h = omega arith
+
+-- two products, whose limbs are a, b and c, d
+module _ (a b c d lo carry hi : ℕ) (e : lo ≡ (a + c) % 2 ^ 64) (f : carry ≡ (a + c) / 2 ^ 64) (g : hi ≡ (b + carry + d) % 2 ^ 64) (k : d < 2 ^ 64) where
+  pub sum-within : b + carry ≤ hi → limbs lo hi ≡ lessOffset (limbs a b + limbs c d)
+  sum-within h =
+      let same : limbs lo hi ≡ limbs a b + limbs c d = ap (limbs lo) (wraps-not (b + carry) d hi g k h ∙ add-right-comm b carry d) ∙ summed a b c d e f in
+      same ∙ sym (within (limbs a b + limbs c d) (rw (← same) (limbs-below lo hi (rw e (mod-lt (a + c) (pow-pos 64))) (rw g (mod-lt (b + carry + d) (pow-pos 64))))))
+
+  module _ (h : hi < b + carry) (p : limbs a b ≤ largest) (x : a < 2 ^ 64) (y : c < 2 ^ 64) where
+    past : limbs a b + limbs c d ≡ limbs lo hi + 2 ^ 128
+    unfolding limbs
+    past = wrapped a b c d lo carry hi (2 ^ 64) (rw (e, f) (sym (mod-add-div (a + c) (2 ^ 64)))) (wraps-once (b + carry) d hi g k (carry-fits a b c carry p x y f) h)
+
+    pub past-fits : limbs c d ≤ largest → limbs lo hi + limbs partial 0 < 2 ^ 128
+    past-fits q = rw (limbs-word partial) (room _ _ _ _ partial past (add-le-add p q) (lit< tt))
+
+    pub past-less : limbs lo hi + limbs partial 0 ≡ lessOffset (limbs a b + limbs c d)
+    past-less = rw (limbs-word partial, beyond (limbs a b + limbs c d) (rw past (le-add-left (2 ^ 128) (limbs lo hi)))) (instead _ _ _ _ _ past (eqb→eq _ _ tt))

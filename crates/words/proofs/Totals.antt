@@ -1,0 +1,113 @@
+-- Sums over lists: their bounds over the number of entries, and the steps of the loops that make them.
+use mathlib.Core.Path.{_≡_, refl, ap, ap₂, _∙_}
+use mathlib.Core.List.{List, [], _∷_, map, map-id}
+use Prim.Native.Nat.{ℕ, zero, suc, _+_, _-_, _*_, _/_, _%_, _^_, _<_, _≤_}
+use native.Mathlib.Nat.{le-refl, le-trans, le-of-suc-le-suc, lt-of-le-of-lt, add-le-add, mul-le-mul, mul-le-mul-right}
+use native.Mathlib.Numerals.{add-one}
+use native.Mathlib.Omega.{arith}
+use lib.Dec.{lit<, lit≤}
+use lib.ListN.{length, drop, getD, drop-of-length-le, length-map}
+use lib.Pow.{shr-lt}
+use lib.Seq.{drop-cons}
+use mir.Syntax.{w64}
+use mir.Val.{Fits}
+use Rattle.prime.specs.Modulus.{P}
+use Rattle.prime.specs.Lists.{Each}
+use Rattle.words.specs.Limbs.{limbs, largest}
+use Rattle.words.specs.Sums.{limit, total, products, lowSum, highSum}
+use Rattle.words.proofs.Products.{product-below}
+use Rattle.words.proofs.Carries.{limbs-word}
+
+-- a slice of words, entry by entry
+pub each-word : (ws : List ℕ) → ((i : ℕ) → Fits w64 (getD ws i 0)) → Each (λ (w : ℕ). w < 2 ^ 64) ws
+each-word [] h = tt
+each-word (w ∷ ws) h = (h 0 .fits, each-word ws (λ i. h (suc i)))
+
+-- ---- bounds, over the number of entries
+
+-- where f takes no entry above k, the sum of what it gives is at most k for each
+sum-bound : (f : ℕ → ℕ) (Q : ℕ → Type 0) (k : ℕ) → ((x : ℕ) → Q x → f x ≤ k) → (ws : List ℕ) → Each Q ws → total (map f ws) ≤ length ws * k
+unfolding total
+sum-bound f Q k g [] h = omega arith
+sum-bound f Q k g (w ∷ ws) h = omega (arith, g w (h .0), sum-bound f Q k g ws (h .1))
+
+-- the exact sum of words
+pub total-fits : (ws : List ℕ) → Each (λ (w : ℕ). w < 2 ^ 64) ws → length ws < 2 ^ 64 → total ws < 2 ^ 128
+total-fits ws h k =
+    rw (map-id ws)
+    at (lt-of-le-of-lt (sum-bound (λ w. w) (λ w. w < 2 ^ 64) (2 ^ 64 - 1) (λ w l. omega arith) ws h) (product-below 64 k (lit< tt)))
+
+-- the products of two slices of words
+pub each-product : (xs ys : List ℕ) → Each (λ (w : ℕ). w < 2 ^ 64) xs → Each (λ (w : ℕ). w < 2 ^ 64) ys → Each (λ (p : ℕ). p ≤ largest) (products xs ys)
+unfolding products
+each-product [] [] h k = tt
+each-product [] (y ∷ ys) h k = tt
+each-product (x ∷ xs) [] h k = tt
+each-product (x ∷ xs) (y ∷ ys) h k = (mul-le-mul {n₂ = 2 ^ 64 - 1} {m₂ = 2 ^ 64 - 1} (omega (arith, h .0)) (omega (arith, k .0)), each-product xs ys (h .1) (k .1))
+
+module _ (ps : List ℕ) (e : Each (λ (p : ℕ). p ≤ largest) ps) where
+  pub low-bound : lowSum ps ≤ length ps * (2 ^ 96 - 1)
+  low-bound = sum-bound (λ p. p % 2 ^ 96) (λ p. p ≤ largest) (2 ^ 96 - 1) (λ p h. omega arith) ps e
+
+  pub high-bound : highSum ps ≤ length ps * (2 ^ 32 - 1)
+  high-bound = sum-bound (λ p. p / 2 ^ 96) (λ p. p ≤ largest) (2 ^ 32 - 1) (λ p h. le-of-suc-le-suc (shr-lt 32 96 (lt-of-le-of-lt h (lit< tt)))) ps e
+
+  -- so up to the limit no carry is lost
+  pub low-fits : length ps ≤ limit → lowSum ps + P < 2 ^ 128
+  low-fits h = lt-of-le-of-lt (add-le-add (le-trans low-bound (mul-le-mul-right (2 ^ 96 - 1) h)) (le-refl P)) (lit< tt)
+
+  pub high-fits : length ps ≤ limit → highSum ps ≤ P
+  high-fits h = le-trans high-bound (le-trans (mul-le-mul-right (2 ^ 32 - 1) h) (lit≤ tt))
+
+-- ---- the steps of the loops
+
+-- a sum s so far, and what is left from i on, make the whole
+module _ (ws : List ℕ) (i s : ℕ) (e : s + total (drop i ws) ≡ total ws) where
+  total-next : i < length ws → total (drop i ws) ≡ getD ws i 0 + total (drop (i + 1) ws)
+  unfolding total
+  total-next h = rw (add-one i, drop-cons ws i 0 h)
+
+  pub total-room : i < length ws → ((j : ℕ) → Fits w64 (getD ws j 0)) → length ws < 2 ^ 64 → s + limbs (getD ws i 0) 0 < 2 ^ 128
+  total-room h f k =
+      let below : s + limbs (getD ws i 0) 0 ≤ total ws = omega (arith, total-next h, limbs-word (getD ws i 0)) in
+      lt-of-le-of-lt below (total-fits ws (each-word ws f) k)
+
+  pub total-step : i < length ws → {r : ℕ} → r ≡ s + limbs (getD ws i 0) 0 → r + total (drop (i + 1) ws) ≡ total ws
+  total-step h f = omega (arith, total-next h, limbs-word (getD ws i 0))
+
+  pub total-end : length ws ≤ i → s ≡ total ws
+  unfolding total
+  total-end h = omega (arith, rw (drop-of-length-le ws h) at e)
+
+-- the same of a part f of each product
+module _ (f : ℕ → ℕ) (xs ys : List ℕ) (i s : ℕ) (e : s + total (map f (products (drop i xs) (drop i ys))) ≡ total (map f (products xs ys))) where
+  module _ (h : i < length xs) (k : i < length ys) {v : ℕ} (q : v ≡ f (getD xs i 0 * getD ys i 0)) where
+    part-next : total (map f (products (drop i xs) (drop i ys))) ≡ v + total (map f (products (drop (i + 1) xs) (drop (i + 1) ys)))
+    unfolding total products
+    part-next = rw (q, add-one i, drop-cons xs i 0 h, drop-cons ys i 0 k)
+
+    pub part-room : s + v ≤ total (map f (products xs ys))
+    part-room = omega (arith, part-next)
+
+    pub part-step : {r : ℕ} → r ≡ s + v → r + total (map f (products (drop (i + 1) xs) (drop (i + 1) ys))) ≡ total (map f (products xs ys))
+    part-step p = omega (arith, part-next)
+
+  pub part-end : length xs ≤ i → length ys ≤ i → s ≡ total (map f (products xs ys))
+  unfolding total products
+  part-end h k = omega (arith, rw (drop-of-length-le xs h, drop-of-length-le ys k) at e)
+
+-- ---- the products of two slices of words
+
+pub products-length : (xs ys : List ℕ) → length xs ≡ length ys → length (products xs ys) ≡ length xs
+unfolding products
+products-length [] [] h = refl
+products-length [] (y ∷ ys) h = refl
+products-length (x ∷ xs) [] h = omega arith
+products-length (x ∷ xs) (y ∷ ys) h = ap suc (products-length xs ys (omega arith))
+
+module _ (xs ys : List ℕ) (f : (j : ℕ) → Fits w64 (getD xs j 0)) (g : (j : ℕ) → Fits w64 (getD ys j 0)) (e : length xs ≡ length ys) (l : length xs ≤ limit) where
+  pub low-whole : lowSum (products xs ys) + P < 2 ^ 128
+  low-whole = low-fits (products xs ys) (each-product xs ys (each-word xs f) (each-word ys g)) (rw (products-length xs ys e) l)
+
+  pub high-whole : highSum (products xs ys) ≤ P
+  high-whole = high-fits (products xs ys) (each-product xs ys (each-word xs f) (each-word ys g)) (rw (products-length xs ys e) l)
