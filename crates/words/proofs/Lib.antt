@@ -7,6 +7,7 @@ pub mod Tables
 pub mod Carries
 pub mod Totals
 pub mod Laws
+pub mod SumLaws
 pub mod Arms
 pub mod PowersOfTwo
 pub mod Signed

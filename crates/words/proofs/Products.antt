@@ -4,7 +4,7 @@ use Prim.Native.Nat.{ℕ, _+_, _-_, _*_, _/_, _%_, _^_, _<_, _≤_}
 use native.Mathlib.Nat.{le-of-lt, lt-of-le-of-lt, mul-le-mul, mul-le-mul-left, mul-lt-mul-of-pos-right, div-add-mod, mod-add-div}
 use native.Mathlib.Omega.{arith}
 use lib.Pow.{pow-add, pow-pos}
-use Rattle.words.specs.Limbs.{limbs, partial}
+use Rattle.words.specs.Limbs.{limbs, partial, largest}
 use Rattle.words.specs.Words.{lessP, plusP, reduceWord, wideWord}
 
 pub product-below : (k : ℕ) {a b : ℕ} → a < 2 ^ k → b < 2 ^ k → a * b < 2 ^ (k + k)
@@ -14,6 +14,9 @@ product-below k {a} {b} h i =
 
 pub halves-below : {a b : ℕ} → a < 2 ^ 32 → b < 2 ^ 32 → a * b ≤ partial
 halves-below h k = mul-le-mul {n₂ = 2 ^ 32 - 1} {m₂ = 2 ^ 32 - 1} (omega arith) (omega arith)
+
+pub words-below : {a b n : ℕ} → a < 2 ^ 64 → b < 2 ^ 64 → n ≡ a * b → n ≤ largest
+words-below h k e = rw e (mul-le-mul {n₂ = 2 ^ 64 - 1} {m₂ = 2 ^ 64 - 1} (omega arith) (omega arith))
 
 -- the product of two words by their halves
 expand : (a b c d : ℕ) → (2 ^ 32 * a + b) * (2 ^ 32 * c + d) ≡ 2 ^ 64 * (a * c) + 2 ^ 32 * (b * c + a * d) + b * d

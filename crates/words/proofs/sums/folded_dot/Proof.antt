@@ -1,47 +1,49 @@
 -- Of each sum, what is summed and what is left make the whole, which fits.
-use mathlib.Core.Path.{_≡_}
-use Prim.Native.Nat.{_+_, _-_, _≤_}
+use mathlib.Core.Path.{refl}
+use Prim.Native.Nat.{_-_}
 use native.Mathlib.Omega.{arith}
 use borrow.Author.Needs.{needs}
-use lib.ListN.{length, drop}
+use lib.ListN.{length}
 use Rattle.words.specs.Limbs.{limbs}
-use Rattle.words.specs.Sums.{products, lowSum, highSum}
+use Rattle.words.proofs.Totals.{Running, starts, turn-low, turn-high, turn, high-end, folded-room, folded}
 use Rattle.words.proofs.sums.folded_dot.Statement.{statement}
 use Rattle.words.proofs.sums.folded_dot.Tie as tie
 
 abbrev Inv-loop : tie.InvT-loop
-Inv-loop lhs rhs low₀ high₀ i₀ low high i =
-    (i ≤ length lhs)
-    × (limbs (low .lo) (low .hi) + lowSum (products (drop i lhs) (drop i rhs)) ≡ lowSum (products lhs rhs))
-    × (high + highSum (products (drop i lhs) (drop i rhs)) ≡ highSum (products lhs rhs))
+Inv-loop lhs rhs low₀ high₀ i₀ low high i = Running lhs rhs i (limbs (low .lo) (low .hi)) high
 
 abbrev μ-loop : tie.MeasureT-loop
 μ-loop lhs rhs low₀ high₀ i₀ low high i = length lhs - i
 
 loop-holds : tie.Need-loop-holds Inv-loop μ-loop
-unfolding limbs
-loop-holds c = (search needs, omega arith, omega arith)
+loop-holds c = starts _ _ (c .before .shared-slice-known .given) (c .shared-slice-known2 .given) (search needs) (search needs)
 
 add-wide-requires : tie.Need-add-wide-requires Inv-loop μ-loop
-add-wide-requires c κs = ?
+add-wide-requires c κs = turn-low (c .before .before .before .before .before .loop .inv) (search needs) (c .before .mul-wide .ensures) (c .low-96 .ensures)
 
 add-high : tie.Need-add-high Inv-loop μ-loop
-add-high c = ?
+add-high c =
+    let l = c .before .before .before .before .before .before .before in
+    omega (arith, turn-high (l .loop .inv) (search needs) (c .before .before .before .mul-wide .ensures) (c .above-96 .ensures))
 
 loop-again : tie.Need-loop-again Inv-loop μ-loop
-loop-again c = ?
+loop-again c =
+    let l = c .before .before .before .before .before .before .before in
+    turn (l .loop .inv) (search needs) (c .before .before .before .mul-wide .ensures)
+    (c .before .before .low-96 .ensures) (c .above-96 .ensures) (c .before .add-wide .ensures)
 
 sub-lo : tie.Need-sub-lo Inv-loop μ-loop
-sub-lo c = ?
+sub-lo c = high-end (c .before .loop .inv) (search needs)
 
 add-wide-requires-2 : tie.Need-add-wide-requires-2 Inv-loop μ-loop
-add-wide-requires-2 c κs = ?
+add-wide-requires-2 c κs = folded-room (c .before .loop .inv) (search needs)
 
 returns : tie.Need-returns Inv-loop μ-loop
-returns c = ?
+returns c = folded (c .before .before .loop .inv) (search needs) (c .add-wide2 .ensures)
 
 pub folded-dot-spec : {M : Type 1} → statement M
 folded-dot-spec =
     tie.close
-    (tie.spec Inv-loop μ-loop loop-holds (λ c. omega arith) (λ c. omega arith) (λ c. omega arith) (λ c. omega arith) (λ c κs. search needs) (λ c κs. search needs)
-    add-wide-requires (λ c κs. search needs) add-high (λ c. omega arith) (λ c. omega arith) loop-again sub-lo add-wide-requires-2 returns)
+    (tie.spec Inv-loop μ-loop loop-holds (λ c. omega arith) (λ c. omega arith) (λ c. omega arith) (λ c. omega arith)
+    (λ c κs. search needs) (λ c κs. search needs) add-wide-requires (λ c κs. search needs) add-high (λ c. omega arith) (λ c. omega arith)
+    loop-again sub-lo add-wide-requires-2 returns)

@@ -1,0 +1,167 @@
+-- The words that sum and dot answer: each arm of the code is the rule, and modulo P the word is the sum.
+use mathlib.Core.Path.{_≡_, refl, sym, ap, _∙_}
+use mathlib.Core.Bool.{false}
+use mathlib.Core.List.{List, [], _∷_}
+use Prim.Native.Nat.{ℕ, zero, suc, _+_, _-_, _*_, _/_, _%_, _^_, _<_, _≤_}
+use native.Mathlib.Nat.{add-le-add, lt-of-le-of-lt, le-trans, add-zero, sub-le, sub-add-cancel}
+use native.Mathlib.Omega.{arith}
+use lib.Dec.{leb, lit<, lit≤}
+use lib.ListN.{length, getD}
+use mir.Syntax.{w64}
+use mir.Val.{Fits}
+use borrow.Author.Tests.{le-leb, lt-leb, eq-eqb, ne-eqb}
+use Rattle.prime.specs.Modulus.{P}
+use Rattle.prime.specs.Lists.{Each}
+use Rattle.prime.proofs.Congruence.{same, add-same}
+use Rattle.words.specs.Limbs.{largest}
+use Rattle.words.specs.Words.{addWord, wideWord, mulWord}
+use Rattle.words.specs.Sums.{limit, total, sumWord, products, lowSum, highSum, offset, lessOffset, dotProducts, dotWord, dotTaken, dotRefusal}
+use Rattle.words.specs.declared.answers.Refusal.the-variants.{LengthsDiffer, TooMany}
+use Rattle.words.specs.declared.answers.Answer.the-variants.{Word, Refused}
+use Rattle.words.specs.Promises.{Answered}
+use Rattle.words.proofs.Choice.{by-lt}
+use Rattle.words.proofs.Stands.{Stands, itself, to, granted, refused}
+use Rattle.words.proofs.Laws.{add-stands, wide-stands}
+use Rattle.words.proofs.Totals.{each-word, total-fits, each-product, products-length, low-fits, high-fits}
+
+-- ---- the rule of sum, by the number of words
+
+pub sum-none : (ws : List ℕ) → length ws ≡ 0 → 0 ≡ sumWord ws
+unfolding sumWord
+sum-none [] h = refl
+sum-none (x ∷ ws) h = omega arith
+
+pub sum-one : (ws : List ℕ) → length ws ≡ 1 → getD ws 0 0 ≡ sumWord ws
+unfolding sumWord
+sum-one [] h = omega arith
+sum-one (x ∷ []) h = refl
+sum-one (x ∷ y ∷ ws) h = omega arith
+
+pub sum-two : (ws : List ℕ) → length ws ≡ 2 → addWord (getD ws 0 0) (getD ws 1 0) ≡ sumWord ws
+unfolding sumWord
+sum-two [] h = omega arith
+sum-two (x ∷ []) h = omega arith
+sum-two (x ∷ y ∷ []) h = refl
+sum-two (x ∷ y ∷ z ∷ ws) h = omega arith
+
+pub sum-three : (ws : List ℕ) → length ws ≡ 3 → {s v : ℕ} → s ≡ addWord (getD ws 0 0) (getD ws 1 0) → v ≡ addWord s (getD ws 2 0) → v ≡ sumWord ws
+unfolding sumWord
+sum-three [] h p q = omega arith
+sum-three (x ∷ []) h p q = omega arith
+sum-three (x ∷ y ∷ []) h p q = omega arith
+sum-three (x ∷ y ∷ z ∷ []) h p q = q ∙ ap (λ (n : ℕ). addWord n z) p
+sum-three (x ∷ y ∷ z ∷ w ∷ ws) h p q = omega arith
+
+pub sum-more : (ws : List ℕ) → 3 < length ws → wideWord (total ws) ≡ sumWord ws
+unfolding sumWord
+sum-more [] h = omega arith
+sum-more (x ∷ []) h = omega arith
+sum-more (x ∷ y ∷ []) h = omega arith
+sum-more (x ∷ y ∷ z ∷ []) h = omega arith
+sum-more (x ∷ y ∷ z ∷ w ∷ ws) h = refl
+
+pub sum-stands : (ws : List ℕ) → Each (λ (w : ℕ). w < 2 ^ 64) ws → length ws ≤ limit → Stands (total ws % P) (sumWord ws)
+unfolding total sumWord
+sum-stands [] h l = itself 0 (lit< tt)
+sum-stands (x ∷ []) h l = to (same P x (x + 0) 0 0 (omega arith)) (itself x (h .0))
+sum-stands (x ∷ y ∷ []) h l = to (same P (x + y) (x + (y + 0)) 0 0 (omega arith)) (add-stands x y (h .0) (h .1 .0))
+sum-stands (x ∷ y ∷ z ∷ []) h l =
+    let two : Stands ((x + y) % P) (addWord x y) = add-stands x y (h .0) (h .1 .0) in
+    to (add-same P (addWord x y) z (x + y) z (two .element) refl ∙ same P (x + y + z) (x + (y + (z + 0))) 0 0 (omega arith))
+    (add-stands (addWord x y) z (two .below) (h .1 .1 .0))
+sum-stands (x ∷ y ∷ z ∷ w ∷ ws) h l = wide-stands (total (x ∷ y ∷ z ∷ w ∷ ws)) (total-fits (x ∷ y ∷ z ∷ w ∷ ws) h (lt-of-le-of-lt l (lit< tt)))
+
+pub summed : (ws : List ℕ) → ((j : ℕ) → Fits w64 (getD ws j 0)) → length ws ≤ limit → {v : ℕ} → v ≡ sumWord ws
+    → Answered (leb (length ws) limit) 5 (sumWord ws) (total ws % P) (Word v)
+summed ws f l e = granted (leb (length ws) limit) (le-leb (length ws) limit l) e (sum-stands ws (each-word ws f) l)
+
+-- ---- the rule of dot, by the number of pairs
+
+by-count-none : (ps : List ℕ) → length ps ≡ 0 → 0 ≡ dotProducts ps
+unfolding dotProducts
+by-count-none [] h = refl
+by-count-none (p ∷ ps) h = omega arith
+
+by-count-one : (ps : List ℕ) → length ps ≡ 1 → wideWord (getD ps 0 0) ≡ dotProducts ps
+unfolding dotProducts
+by-count-one [] h = omega arith
+by-count-one (p ∷ []) h = refl
+by-count-one (p ∷ q ∷ ps) h = omega arith
+
+by-count-two : (ps : List ℕ) → length ps ≡ 2 → wideWord (lessOffset (getD ps 0 0 + getD ps 1 0)) ≡ dotProducts ps
+unfolding dotProducts
+by-count-two [] h = omega arith
+by-count-two (p ∷ []) h = omega arith
+by-count-two (p ∷ q ∷ []) h = refl
+by-count-two (p ∷ q ∷ s ∷ ps) h = omega arith
+
+by-count-more : (ps : List ℕ) → 2 < length ps → wideWord (lowSum ps + P - highSum ps) ≡ dotProducts ps
+unfolding dotProducts
+by-count-more [] h = omega arith
+by-count-more (p ∷ []) h = omega arith
+by-count-more (p ∷ q ∷ []) h = omega arith
+by-count-more (p ∷ q ∷ s ∷ ps) h = refl
+
+product-at : (xs ys : List ℕ) (i : ℕ) → i < length xs → i < length ys → getD (products xs ys) i 0 ≡ getD xs i 0 * getD ys i 0
+unfolding products
+product-at [] [] i h k = omega arith
+product-at [] (y ∷ ys) i h k = omega arith
+product-at (x ∷ xs) [] i h k = omega arith
+product-at (x ∷ xs) (y ∷ ys) zero h k = refl
+product-at (x ∷ xs) (y ∷ ys) (suc i) h k = product-at xs ys i (omega arith) (omega arith)
+
+module _ (xs ys : List ℕ) (e : length xs ≡ length ys) where
+  pub dot-none : length xs ≡ 0 → 0 ≡ dotWord xs ys
+  dot-none h = by-count-none (products xs ys) (products-length xs ys e ∙ h)
+
+  pub dot-one : length xs ≡ 1 → mulWord (getD xs 0 0) (getD ys 0 0) ≡ dotWord xs ys
+  unfolding mulWord
+  dot-one h = rw (← product-at xs ys 0 (omega arith) (omega arith)) (by-count-one (products xs ys) (products-length xs ys e ∙ h))
+
+  pub dot-two : length xs ≡ 2 → {p q s : ℕ} → p ≡ getD xs 0 0 * getD ys 0 0 → q ≡ getD xs 1 0 * getD ys 1 0 → s ≡ lessOffset (p + q) → wideWord s ≡ dotWord xs ys
+  dot-two h f g k =
+      rw (k, f, g, ← product-at xs ys 0 (omega arith) (omega arith), ← product-at xs ys 1 (omega arith) (omega arith))
+      (by-count-two (products xs ys) (products-length xs ys e ∙ h))
+
+  pub dot-more : 2 < length xs → wideWord (lowSum (products xs ys) + P - highSum (products xs ys)) ≡ dotWord xs ys
+  dot-more h = by-count-more (products xs ys) (rw (products-length xs ys e) h)
+
+-- two products, less the offset
+below-offset : (s m w o : ℕ) → 0 < w → s ≤ m → m < w + o → s - o < w
+below-offset s m w o z h k = omega arith
+
+two-stand : (p q : ℕ) → p ≤ largest → q ≤ largest → Stands ((p + q) % P) (wideWord (lessOffset (p + q)))
+two-stand p q h k = by-lt (λ (n : ℕ). Stands ((p + q) % P) (wideWord n)) (p + q) (2 ^ 128) (λ t. wide-stands (p + q) t)
+    (λ t. to (same P (p + q - offset) (p + q) (2 ^ 64 + 2 ^ 32 - 1) 0 (sub-add-cancel (le-trans (lit≤ tt) t) ∙ sym (add-zero (p + q))))
+    (wide-stands (p + q - offset) (below-offset (p + q) (largest + largest) (2 ^ 128) offset (lit< tt) (add-le-add h k) (lit< tt))))
+
+-- 2^96 is -1 modulo P, so that the parts above 96 bits are taken away
+parts-total : (ps : List ℕ) → total ps ≡ lowSum ps + 2 ^ 96 * highSum ps
+unfolding total
+parts-total [] = refl
+parts-total (p ∷ ps) = omega (arith, parts-total ps)
+
+folded-stands : (l h : ℕ) → h ≤ P → l + P < 2 ^ 128 → Stands ((l + 2 ^ 96 * h) % P) (wideWord (l + P - h))
+folded-stands l h k f = to (same P (l + P - h) (l + 2 ^ 96 * h) ((2 ^ 32 + 1) * h) 1 (omega arith)) (wide-stands (l + P - h) (lt-of-le-of-lt (sub-le (l + P) h) f))
+
+pub dot-stands : (ps : List ℕ) → Each (λ (p : ℕ). p ≤ largest) ps → length ps ≤ limit → Stands (total ps % P) (dotProducts ps)
+unfolding total dotProducts
+dot-stands [] h l = itself 0 (lit< tt)
+dot-stands (p ∷ []) h l = to (same P p (p + 0) 0 0 (omega arith)) (wide-stands p (lt-of-le-of-lt (h .0) (lit< tt)))
+dot-stands (p ∷ q ∷ []) h l = to (same P (p + q) (p + (q + 0)) 0 0 (omega arith)) (two-stand p q (h .0) (h .1 .0))
+dot-stands (p ∷ q ∷ s ∷ ps) h l =
+    to (ap (λ (n : ℕ). n % P) (sym (parts-total (p ∷ q ∷ s ∷ ps))))
+    (folded-stands (lowSum (p ∷ q ∷ s ∷ ps)) (highSum (p ∷ q ∷ s ∷ ps)) (high-fits (p ∷ q ∷ s ∷ ps) h l) (low-fits (p ∷ q ∷ s ∷ ps) h l))
+
+module _ (xs ys : List ℕ) where
+  pub dotted : ((j : ℕ) → Fits w64 (getD xs j 0)) → ((j : ℕ) → Fits w64 (getD ys j 0)) → length xs ≡ length ys → length xs ≤ limit → {v : ℕ} → v ≡ dotWord xs ys
+      → Answered (dotTaken xs ys) (dotRefusal xs ys) (dotWord xs ys) (total (products xs ys) % P) (Word v)
+  dotted f g e l q =
+      granted (dotTaken xs ys) (rw (eq-eqb (length xs) (length ys) e) (le-leb (length xs) limit l)) q
+      (dot-stands (products xs ys) (each-product xs ys (each-word xs f) (each-word ys g)) (rw (products-length xs ys e) l))
+
+  pub lengths-differ : (length xs ≡ length ys → ⊥) → Answered (dotTaken xs ys) (dotRefusal xs ys) (dotWord xs ys) (total (products xs ys) % P) (Refused LengthsDiffer)
+  lengths-differ n = rw (ne-eqb (length xs) (length ys) n) (refused false LengthsDiffer refl)
+
+  pub too-many : length xs ≡ length ys → limit < length xs → Answered (dotTaken xs ys) (dotRefusal xs ys) (dotWord xs ys) (total (products xs ys) % P) (Refused TooMany)
+  too-many e h = rw (eq-eqb (length xs) (length ys) e) (refused (leb (length xs) limit) TooMany (lt-leb (length xs) limit h))
