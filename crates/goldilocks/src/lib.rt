@@ -1,5 +1,4 @@
-// The port's table of contents: the public operations of document 01 that are ported so far, in its order. Each keeps the contract of the
-// crate that proves it.
+// The port's table of contents: every public operation of document 01, in its order. Each keeps the contract of the crate that proves it.
 // A word is any u64 and stands for the element x mod P; no operation asks anything of its caller.
 
 // P, 2^64 - 2^32 + 1.
@@ -23,6 +22,10 @@ pub use words::mul;
 pub use words::square;
 // Half of x.
 pub use words::halve;
+// The sum of up to 4,096 words.
+pub use words::sum_array;
+// The sum of the products of up to 4,096 pairs.
+pub use words::dot_product;
 // A signed number: n, or P + n.
 pub use words::from_i64;
 // Two limbs, canonical.
@@ -32,6 +35,15 @@ pub use words::from_u128;
 pub use words::mul_2exp_u64;
 // x / 2^exp, for any exponent.
 pub use words::div_2exp_u64;
+
+// The element whose product with x is 1; zero has none.
+pub use roots::try_inverse;
+// The square root that the Rust finds, where there is one.
+pub use roots::try_sqrt;
+// The seventh root, which every element has.
+pub use roots::injective_exp_root_n;
+// The generator of the subgroup of 2^bits elements, bits up to 32.
+pub use roots::two_adic_generator;
 
 // Equality, by canonical forms: 0 and P are equal.
 pub use words::eq;
@@ -43,6 +55,13 @@ pub use words::is_zero;
 
 // The low k bits of the canonical form, k up to 32.
 pub use words::slot;
+
+// What coding answers: done, or a refusal and the index of the first bad group.
+pub use wire::Coded;
+// Words into a lent buffer of 8 bytes each, canonical and little-endian.
+pub use wire::encode;
+// The words of such a buffer; none is written unless every group is below P.
+pub use wire::decode;
 
 // The canonical form, below P.
 pub use words::as_canonical_u64;
