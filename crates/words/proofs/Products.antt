@@ -15,8 +15,11 @@ product-below k {a} {b} h i =
 pub halves-below : {a b : ℕ} → a < 2 ^ 32 → b < 2 ^ 32 → a * b ≤ partial
 halves-below h k = mul-le-mul {n₂ = 2 ^ 32 - 1} {m₂ = 2 ^ 32 - 1} (omega arith) (omega arith)
 
-pub words-below : {a b n : ℕ} → a < 2 ^ 64 → b < 2 ^ 64 → n ≡ a * b → n ≤ largest
-words-below h k e = rw e (mul-le-mul {n₂ = 2 ^ 64 - 1} {m₂ = 2 ^ 64 - 1} (omega arith) (omega arith))
+pub words-below : {a b : ℕ} → a < 2 ^ 64 → b < 2 ^ 64 → a * b ≤ largest
+words-below h k = mul-le-mul {n₂ = 2 ^ 64 - 1} {m₂ = 2 ^ 64 - 1} (omega arith) (omega arith)
+
+pub bounded : {a b n : ℕ} → a < 2 ^ 64 → b < 2 ^ 64 → n ≡ a * b → (n ≡ a * b) × (n ≤ largest)
+bounded h k e = (e, rw e (words-below h k))
 
 -- the product of two words by their halves
 expand : (a b c d : ℕ) → (2 ^ 32 * a + b) * (2 ^ 32 * c + d) ≡ 2 ^ 64 * (a * c) + 2 ^ 32 * (b * c + a * d) + b * d

@@ -43,7 +43,7 @@ unfolding products
 each-product [] [] h k = tt
 each-product [] (y ∷ ys) h k = tt
 each-product (x ∷ xs) [] h k = tt
-each-product (x ∷ xs) (y ∷ ys) h k = (words-below (h .0) (k .0) refl, each-product xs ys (h .1) (k .1))
+each-product (x ∷ xs) (y ∷ ys) h k = (words-below (h .0) (k .0), each-product xs ys (h .1) (k .1))
 
 pub products-length : (xs ys : List ℕ) → length xs ≡ length ys → length (products xs ys) ≡ length xs
 unfolding products

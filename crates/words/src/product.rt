@@ -2,7 +2,7 @@
 ghost use mathlib.Core.Path.{_≡_};
 ghost use Prim.Native.Nat.{_+_, _*_, _%_, _^_, _<_, _≤_};
 ghost use Rattle.prime.specs.Modulus.{P};
-ghost use Rattle.words.specs.Limbs.{limbs, partial};
+ghost use Rattle.words.specs.Limbs.{limbs, partial, largest};
 ghost use Rattle.words.specs.Words.{reduceWord, mulWord};
 ghost use Rattle.words.specs.Promises.{Held};
 use super::NEG_ORDER;
@@ -41,7 +41,7 @@ fn join(ll: u64, lh: u64, hl: u64, hh: u64) -> Limbs
 
 // The full product of x and y, by halves of 32 bits.
 pub(crate) fn mul_wide(x: u64, y: u64) -> Limbs
-    ensures { λ r. ⌜ limbs (r .lo) (r .hi) ≡ x * y ⌝ }
+    ensures { λ r. ⌜ (limbs (r .lo) (r .hi) ≡ x * y) × (limbs (r .lo) (r .hi) ≤ largest) ⌝ }
 {
     let x_lo = low_bits(x, 32);
     let x_hi = high_bits(x, 32);

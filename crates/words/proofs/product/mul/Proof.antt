@@ -11,7 +11,7 @@ use Rattle.words.proofs.product.mul.Tie as tie
 returns : tie.Need-returns
 unfolding mulWord
 returns c =
-    held (c .reduce128 .ensures .word ∙ reduce-limbs _ _ _ (search needs) (c .before .mul-wide .ensures)) (mul-stands _ _ (search needs) (search needs))
+    held (c .reduce128 .ensures .word ∙ reduce-limbs _ _ _ (search needs) (c .before .mul-wide .ensures .0)) (mul-stands _ _ (search needs) (search needs))
 
 pub mul-spec : {M : Type 1} → statement M
 mul-spec = tie.close (tie.spec (λ c κs. search needs) (λ c κs. search needs) returns)

@@ -1,6 +1,6 @@
 -- The product is that of the halves.
 use borrow.Author.Needs.{needs}
-use Rattle.words.proofs.Products.{by-halves}
+use Rattle.words.proofs.Products.{by-halves, bounded}
 use Rattle.words.proofs.product.mul_wide.Statement.{statement}
 use Rattle.words.proofs.product.mul_wide.Tie as tie
 
@@ -8,7 +8,7 @@ returns : tie.Need-returns
 returns c =
     let halves = c .before .before .before .before .before in
     let start = halves .before .before .before .before in
-    cc (by-halves (start .args .x) (start .args .y))
+    bounded {a = start .args .x} {b = start .args .y} (search needs) (search needs) (cc (by-halves (start .args .x) (start .args .y)))
 
 pub mul-wide-spec : {M : Type 1} → statement M
 mul-wide-spec =

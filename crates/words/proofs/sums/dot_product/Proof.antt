@@ -2,7 +2,7 @@
 use mathlib.Core.Path.{refl, _∙_}
 use native.Mathlib.Omega.{arith}
 use borrow.Author.Needs.{needs}
-use Rattle.words.proofs.Products.{words-below, reduce-limbs}
+use Rattle.words.proofs.Products.{reduce-limbs}
 use Rattle.words.proofs.SumLaws.{dotted, lengths-differ, too-many, dot-none, dot-one, dot-two, dot-more}
 use Rattle.words.proofs.sums.dot_product.Statement.{statement}
 use Rattle.words.proofs.sums.dot_product.Tie as tie
@@ -12,12 +12,6 @@ returns c = lengths-differ _ _ (search needs)
 
 returns-2 : tie.Need-returns-2
 returns-2 c = too-many _ _ (search needs) (search needs)
-
-add-products-requires : tie.Need-add-products-requires
-add-products-requires c κs =
-    let xs = c .before .before .before .before .before .before .before .before .before .before .shared-slice-known .given in
-    let ys = c .before .before .before .before .before .before .before .before .before .shared-slice-known2 .given in
-    (words-below (xs 0 .fits) (ys 0 .fits) (c .before .before .before .mul-wide .ensures), words-below (xs 1 .fits) (ys 1 .fits) (c .mul-wide2 .ensures))
 
 returns-3 : tie.Need-returns-3
 returns-3 c =
@@ -36,7 +30,7 @@ returns-5 c =
     let start = arm .before .before .before in
     dotted _ _ (start .before .shared-slice-known .given) (start .shared-slice-known2 .given) (search needs) (search needs)
     (c .reduce128 .ensures .word ∙ reduce-limbs _ _ _ (search needs) refl
-    ∙ dot-two _ _ (search needs) (arm .match .keys3) (c .before .before .before .before .before .mul-wide .ensures) (c .before .before .mul-wide2 .ensures) (c .before .add-products .ensures))
+    ∙ dot-two _ _ (search needs) (arm .match .keys3) (c .before .before .before .before .before .mul-wide .ensures .0) (c .before .before .mul-wide2 .ensures .0) (c .before .add-products .ensures))
 
 returns-6 : tie.Need-returns-6
 returns-6 c =
@@ -48,5 +42,5 @@ pub dot-product-spec : {M : Type 1} → statement M
 dot-product-spec =
     tie.close
     (tie.spec returns returns-2 (λ c. search needs) (λ c. search needs) (λ c κs. search needs) (λ c. search needs) (λ c. search needs) (λ c κs. search needs)
-    (λ c. search needs) (λ c. search needs) (λ c κs. search needs) add-products-requires (λ c κs. search needs) (λ c κs. search needs) (λ c κs. search needs)
+    (λ c. search needs) (λ c. search needs) (λ c κs. search needs) (λ c κs. search needs) (λ c κs. search needs) (λ c κs. search needs) (λ c κs. search needs)
     returns-3 returns-4 returns-5 returns-6)

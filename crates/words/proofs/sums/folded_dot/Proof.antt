@@ -19,17 +19,17 @@ loop-holds : tie.Need-loop-holds Inv-loop μ-loop
 loop-holds c = starts _ _ (c .before .shared-slice-known .given) (c .shared-slice-known2 .given) (search needs) (search needs)
 
 add-wide-requires : tie.Need-add-wide-requires Inv-loop μ-loop
-add-wide-requires c κs = turn-low (c .before .before .before .before .before .loop .inv) (search needs) (c .before .mul-wide .ensures) (c .low-96 .ensures)
+add-wide-requires c κs = turn-low (c .before .before .before .before .before .loop .inv) (search needs) (c .before .mul-wide .ensures .0) (c .low-96 .ensures)
 
 add-high : tie.Need-add-high Inv-loop μ-loop
 add-high c =
     let l = c .before .before .before .before .before .before .before in
-    omega (arith, turn-high (l .loop .inv) (search needs) (c .before .before .before .mul-wide .ensures) (c .above-96 .ensures))
+    omega (arith, turn-high (l .loop .inv) (search needs) (c .before .before .before .mul-wide .ensures .0) (c .above-96 .ensures))
 
 loop-again : tie.Need-loop-again Inv-loop μ-loop
 loop-again c =
     let l = c .before .before .before .before .before .before .before in
-    turn (l .loop .inv) (search needs) (c .before .before .before .mul-wide .ensures)
+    turn (l .loop .inv) (search needs) (c .before .before .before .mul-wide .ensures .0)
     (c .before .before .low-96 .ensures) (c .above-96 .ensures) (c .before .add-wide .ensures)
 
 sub-lo : tie.Need-sub-lo Inv-loop μ-loop
