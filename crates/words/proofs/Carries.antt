@@ -1,5 +1,5 @@
 -- Sums of numbers in two limbs, with the carry between them; and the sum of two products, which may pass 2^128.
-use mathlib.Core.Path.{_≡_, refl, sym, ap, _∙_}
+use mathlib.Core.Path.{_≡_, sym, ap, _∙_}
 use Prim.Native.Nat.{ℕ, _+_, _-_, _*_, _/_, _%_, _^_, _<_, _≤_}
 use native.Mathlib.Nat.{add-le-add, le-add-left, le-add-right, lt-of-le-of-lt, div-lt-iff-lt-mul, mod-lt, mod-add-div, add-right-comm}
 use native.Mathlib.Omega.{arith}
@@ -56,7 +56,7 @@ carry-below a c carry h k e = omega arith
 pub carry-fits : (a b c carry : ℕ) → limbs a b ≤ largest → a < 2 ^ 64 → c < 2 ^ 64 → carry ≡ (a + c) / 2 ^ 64 → b + carry < 2 ^ 64
 carry-fits a b c carry p h k e = omega (arith, product-upper a b p, carry-below a c carry h k e)
 
--- a sum that wraps at b², and what is added in its stead: b² is o + n
+-- a sum that wraps at w² (w is 2^64), and what is added in its stead: w² is the offset and n
 wrapped : (a b c d lo carry hi w : ℕ) → a + c ≡ lo + w * carry → b + carry + d ≡ hi + w → a + w * b + (c + w * d) ≡ lo + w * hi + w * w
 wrapped a b c d lo carry hi w e f = omega (arith, ap (λ (n : ℕ). w * n) f)
 

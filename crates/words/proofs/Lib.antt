@@ -6,6 +6,7 @@ pub mod Products
 pub mod Tables
 pub mod Carries
 pub mod Totals
+pub mod Dots
 pub mod Laws
 pub mod SumLaws
 pub mod Arms

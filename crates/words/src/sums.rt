@@ -1,6 +1,6 @@
 // Sums and dot products. Ports `sum_array`, `Sum` and `dot_product`; the Rust's u128 is two limbs.
 ghost use mathlib.Core.Path.{_≡_};
-ghost use Prim.Native.Nat.{_+_, _-_, _*_, _/_, _%_, _^_, _<_, _≤_};
+ghost use Prim.Native.Nat.{_+_, _-_, _/_, _%_, _^_, _<_, _≤_};
 ghost use lib.Dec.{leb};
 ghost use lib.ListN.{length};
 ghost use Rattle.prime.specs.Modulus.{P};

@@ -1,11 +1,10 @@
 -- Of each sum, what is summed and what is left make the whole, which fits.
-use mathlib.Core.Path.{refl}
 use Prim.Native.Nat.{_-_}
 use native.Mathlib.Omega.{arith}
 use borrow.Author.Needs.{needs}
 use lib.ListN.{length}
 use Rattle.words.specs.Limbs.{limbs}
-use Rattle.words.proofs.Totals.{Running, starts, turn-low, turn-high, turn, high-end, folded-room, folded}
+use Rattle.words.proofs.Dots.{Running, starts, turn-low, turn-high, turn, high-end, folded-room, folded}
 use Rattle.words.proofs.sums.folded_dot.Statement.{statement}
 use Rattle.words.proofs.sums.folded_dot.Tie as tie
 
