@@ -1,4 +1,4 @@
--- Theorems has the statements at P. The other files prove what holds over any modulus, in this order.
+-- Theorems has the statements at P. The files before it prove what holds over any modulus, in this order. Search has the laws of `least`.
 pub mod Congruence
 pub mod Powers
 pub mod Order
@@ -9,3 +9,4 @@ pub mod Squares
 pub mod Polynomials
 pub mod Prime
 pub mod Theorems
+pub mod Search
