@@ -1,15 +1,16 @@
 // One element as 8 bytes, and back.
 ghost use mathlib.Core.Path.{_≡_};
-ghost use Prim.Native.Nat.{_<_};
+ghost use Prim.Native.Nat.{_+_, _*_, _^_, _<_};
 ghost use lib.ListN.{length};
 ghost use Rattle.wire.specs.Wire.{elementBytes, numberOf};
 use words::as_canonical_u64;
 
-// A byte as a word.
-fn wide(byte: u8) -> u64
-    ensures { λ r. ⌜ (r ≡ byte) × (r < 256) ⌝ }
+// The number that a byte makes with those after it, which make `rest`.
+fn join(byte: u8, rest: u64) -> u64
+    requires { ⌜ rest < 2 ^ 56 ⌝ }
+    ensures { λ r. ⌜ (r ≡ byte + 256 * rest) × (r < 256 * (rest + 1)) ⌝ }
 {
-    byte as u64
+    byte as u64 + 256 * rest
 }
 
 // The number that 8 bytes make, canonical or not.
@@ -17,15 +18,8 @@ pub(crate) fn read_element(bytes: &[u8]) -> u64
     requires { ⌜ length (now bytes) ≡ 8 ⌝ }
     ensures { λ r. ⌜ r ≡ numberOf (now (bytes .entry)) ⌝ }
 {
-    let low = wide(bytes[0])
-        + (wide(bytes[1]) << 8)
-        + (wide(bytes[2]) << 16)
-        + (wide(bytes[3]) << 24);
-    let high = wide(bytes[4])
-        + (wide(bytes[5]) << 8)
-        + (wide(bytes[6]) << 16)
-        + (wide(bytes[7]) << 24);
-    low + (high << 32)
+    let hi = join(bytes[4], join(bytes[5], join(bytes[6], join(bytes[7], 0))));
+    join(bytes[0], join(bytes[1], join(bytes[2], join(bytes[3], hi))))
 }
 
 // The 8 bytes of x.
