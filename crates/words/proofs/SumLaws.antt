@@ -1,12 +1,13 @@
 -- The words that sum and dot answer: each arm of the code is the rule, and modulo P the word is the sum.
-use mathlib.Core.Path.{_≡_, refl, sym, ap, _∙_}
+use mathlib.Core.Path.{_≡_, refl, sym, ap, subst⁻¹, _∙_}
 use mathlib.Core.Bool.{false}
 use mathlib.Core.List.{List, [], _∷_}
 use Prim.Native.Nat.{ℕ, zero, suc, _+_, _-_, _*_, _%_, _^_, _<_, _≤_}
-use native.Mathlib.Nat.{add-le-add, lt-of-le-of-lt, le-trans, add-zero, sub-le, sub-add-cancel}
+use native.Mathlib.Nat.{add-le-add, lt-of-le-of-lt, le-trans, zero-add, add-zero, sub-le, sub-add-cancel}
 use native.Mathlib.Omega.{arith}
 use lib.Dec.{leb, lit<, lit≤}
-use lib.ListN.{length, getD}
+use lib.ListN.{length, drop, getD, drop-of-length-le}
+use lib.Seq.{drop-cons}
 use mir.Syntax.{w64}
 use mir.Val.{Fits}
 use borrow.Author.Tests.{le-leb, lt-leb, eq-eqb, ne-eqb}
@@ -24,41 +25,48 @@ use Rattle.words.proofs.Stands.{Stands, itself, to, granted, refused}
 use Rattle.words.proofs.Laws.{add-stands, wide-stands}
 use Rattle.words.proofs.Totals.{each-word, total-fits, each-product, products-length, low-fits, high-fits}
 
+-- ---- a list by its first k entries
+
+abbrev firsts : ℕ → ℕ → List ℕ → List ℕ → List ℕ
+firsts zero i ws rest = rest
+firsts (suc k) i ws rest = getD ws i 0 ∷ firsts k (suc i) ws rest
+
+firsts-from : (k i : ℕ) (ws rest : List ℕ) → k + i ≤ length ws → rest ≡ drop (k + i) ws → drop i ws ≡ firsts k i ws rest
+firsts-from zero i ws rest h e = ap (λ (n : ℕ). drop n ws) (sym (zero-add i)) ∙ sym e
+firsts-from (suc k) i ws rest h e =
+    drop-cons ws i 0 (omega arith)
+    ∙ ap (λ (l : List ℕ). getD ws i 0 ∷ l)
+    (firsts-from k (suc i) ws rest (omega arith) (e ∙ ap (λ (n : ℕ). drop n ws) (let m : suc k + i ≡ k + suc i = omega arith in m)))
+
+-- all of them, or more
+exactly : (k : ℕ) (ws : List ℕ) → length ws ≡ k → ws ≡ firsts k 0 ws []
+exactly k ws h = firsts-from k 0 ws [] (omega arith) (sym (drop-of-length-le ws {i = k + 0} (omega arith)))
+
+at-least : (k : ℕ) (ws : List ℕ) → k ≤ length ws → ws ≡ firsts k 0 ws (drop (k + 0) ws)
+at-least k ws h = firsts-from k 0 ws (drop (k + 0) ws) (omega arith) refl
+
 -- ---- the rule of sum, by the number of words
 
-pub sum-none : (ws : List ℕ) → length ws ≡ 0 → 0 ≡ sumWord ws
-unfolding sumWord
-sum-none [] h = refl
-sum-none (x ∷ ws) h = omega arith
+module _ (ws : List ℕ) where
+  pub sum-none : length ws ≡ 0 → 0 ≡ sumWord ws
+  unfolding sumWord
+  sum-none h = ap sumWord (sym (exactly 0 ws h))
 
-pub sum-one : (ws : List ℕ) → length ws ≡ 1 → getD ws 0 0 ≡ sumWord ws
-unfolding sumWord
-sum-one [] h = omega arith
-sum-one (x ∷ []) h = refl
-sum-one (x ∷ y ∷ ws) h = omega arith
+  pub sum-one : length ws ≡ 1 → getD ws 0 0 ≡ sumWord ws
+  unfolding sumWord
+  sum-one h = ap sumWord (sym (exactly 1 ws h))
 
-pub sum-two : (ws : List ℕ) → length ws ≡ 2 → addWord (getD ws 0 0) (getD ws 1 0) ≡ sumWord ws
-unfolding sumWord
-sum-two [] h = omega arith
-sum-two (x ∷ []) h = omega arith
-sum-two (x ∷ y ∷ []) h = refl
-sum-two (x ∷ y ∷ z ∷ ws) h = omega arith
+  pub sum-two : length ws ≡ 2 → addWord (getD ws 0 0) (getD ws 1 0) ≡ sumWord ws
+  unfolding sumWord
+  sum-two h = ap sumWord (sym (exactly 2 ws h))
 
-pub sum-three : (ws : List ℕ) → length ws ≡ 3 → {s v : ℕ} → s ≡ addWord (getD ws 0 0) (getD ws 1 0) → v ≡ addWord s (getD ws 2 0) → v ≡ sumWord ws
-unfolding sumWord
-sum-three [] h p q = omega arith
-sum-three (x ∷ []) h p q = omega arith
-sum-three (x ∷ y ∷ []) h p q = omega arith
-sum-three (x ∷ y ∷ z ∷ []) h p q = q ∙ ap (λ (n : ℕ). addWord n z) p
-sum-three (x ∷ y ∷ z ∷ w ∷ ws) h p q = omega arith
+  pub sum-three : length ws ≡ 3 → {s v : ℕ} → s ≡ addWord (getD ws 0 0) (getD ws 1 0) → v ≡ addWord s (getD ws 2 0) → v ≡ sumWord ws
+  unfolding sumWord
+  sum-three h p q = q ∙ ap (λ (n : ℕ). addWord n (getD ws 2 0)) p ∙ ap sumWord (sym (exactly 3 ws h))
 
-pub sum-more : (ws : List ℕ) → 3 < length ws → wideWord (total ws) ≡ sumWord ws
-unfolding sumWord
-sum-more [] h = omega arith
-sum-more (x ∷ []) h = omega arith
-sum-more (x ∷ y ∷ []) h = omega arith
-sum-more (x ∷ y ∷ z ∷ []) h = omega arith
-sum-more (x ∷ y ∷ z ∷ w ∷ ws) h = refl
+  pub sum-more : 3 < length ws → wideWord (total ws) ≡ sumWord ws
+  unfolding sumWord
+  sum-more h = subst⁻¹ (λ (l : List ℕ). wideWord (total l) ≡ sumWord l) (at-least 4 ws h) refl
 
 pub sum-stands : (ws : List ℕ) → Each (λ (w : ℕ). w < 2 ^ 64) ws → length ws ≤ limit → Stands (total ws % P) (sumWord ws)
 unfolding total sumWord
@@ -77,31 +85,6 @@ summed ws f l e = granted (leb (length ws) limit) (le-leb (length ws) limit l) e
 
 -- ---- the rule of dot, by the number of pairs
 
-by-count-none : (ps : List ℕ) → length ps ≡ 0 → 0 ≡ dotProducts ps
-unfolding dotProducts
-by-count-none [] h = refl
-by-count-none (p ∷ ps) h = omega arith
-
-by-count-one : (ps : List ℕ) → length ps ≡ 1 → wideWord (getD ps 0 0) ≡ dotProducts ps
-unfolding dotProducts
-by-count-one [] h = omega arith
-by-count-one (p ∷ []) h = refl
-by-count-one (p ∷ q ∷ ps) h = omega arith
-
-by-count-two : (ps : List ℕ) → length ps ≡ 2 → wideWord (lessOffset (getD ps 0 0 + getD ps 1 0)) ≡ dotProducts ps
-unfolding dotProducts
-by-count-two [] h = omega arith
-by-count-two (p ∷ []) h = omega arith
-by-count-two (p ∷ q ∷ []) h = refl
-by-count-two (p ∷ q ∷ s ∷ ps) h = omega arith
-
-by-count-more : (ps : List ℕ) → 2 < length ps → wideWord (lowSum ps + P - highSum ps) ≡ dotProducts ps
-unfolding dotProducts
-by-count-more [] h = omega arith
-by-count-more (p ∷ []) h = omega arith
-by-count-more (p ∷ q ∷ []) h = omega arith
-by-count-more (p ∷ q ∷ s ∷ ps) h = refl
-
 product-at : (xs ys : List ℕ) (i : ℕ) → i < length xs → i < length ys → getD (products xs ys) i 0 ≡ getD xs i 0 * getD ys i 0
 unfolding products
 product-at [] [] i h k = omega arith
@@ -111,20 +94,27 @@ product-at (x ∷ xs) (y ∷ ys) zero h k = refl
 product-at (x ∷ xs) (y ∷ ys) (suc i) h k = product-at xs ys i (omega arith) (omega arith)
 
 module _ (xs ys : List ℕ) (e : length xs ≡ length ys) where
+  counted : {k : ℕ} → length xs ≡ k → products xs ys ≡ firsts k 0 (products xs ys) []
+  counted {k} h = exactly k (products xs ys) (products-length xs ys e ∙ h)
+
   pub dot-none : length xs ≡ 0 → 0 ≡ dotWord xs ys
-  dot-none h = by-count-none (products xs ys) (products-length xs ys e ∙ h)
+  unfolding dotProducts
+  dot-none h = ap dotProducts (sym (counted h))
 
   pub dot-one : length xs ≡ 1 → mulWord (getD xs 0 0) (getD ys 0 0) ≡ dotWord xs ys
-  unfolding mulWord
-  dot-one h = rw (← product-at xs ys 0 (omega arith) (omega arith)) (by-count-one (products xs ys) (products-length xs ys e ∙ h))
+  unfolding mulWord dotProducts
+  dot-one h = rw (← product-at xs ys 0 (omega arith) (omega arith)) (ap dotProducts (sym (counted h)))
 
   pub dot-two : length xs ≡ 2 → {p q s : ℕ} → p ≡ getD xs 0 0 * getD ys 0 0 → q ≡ getD xs 1 0 * getD ys 1 0 → s ≡ lessOffset (p + q) → wideWord s ≡ dotWord xs ys
+  unfolding dotProducts
   dot-two h f g k =
       rw (k, f, g, ← product-at xs ys 0 (omega arith) (omega arith), ← product-at xs ys 1 (omega arith) (omega arith))
-      (by-count-two (products xs ys) (products-length xs ys e ∙ h))
+      (ap dotProducts (sym (counted h)))
 
   pub dot-more : 2 < length xs → wideWord (lowSum (products xs ys) + P - highSum (products xs ys)) ≡ dotWord xs ys
-  dot-more h = by-count-more (products xs ys) (rw (products-length xs ys e) h)
+  unfolding dotProducts
+  dot-more h =
+      subst⁻¹ (λ (l : List ℕ). wideWord (lowSum l + P - highSum l) ≡ dotProducts l) (at-least 3 (products xs ys) (rw (products-length xs ys e) h)) refl
 
 -- two products, less the offset
 below-offset : (s m w o : ℕ) → 0 < w → s ≤ m → m < w + o → s - o < w
