@@ -1,4 +1,4 @@
--- Laws of the definitions: the promises, the chains and loops of powers, the generators.
+-- Laws of the definitions. Those above cite Canonical, Generated and SquareRootWord; the rest serves the proofs here.
 pub mod Canonical
 pub mod Exponents
 pub mod Generated

@@ -17,9 +17,9 @@ unfolding bytesOf
 bytes-next k i n h = ap (λ (j : ℕ). bytesOf j n) (let e : k - i ≡ suc (k - (i + 1)) = omega arith in e)
 
 module _ (k i n : ℕ) {l goal : List ℕ} where
-  pub bytes-turn : (m : ℕ) {v : ℕ} → i < k → v ≡ n % 256 → m ≡ n / 256 → Front k i l (bytesOf (k - i) n) goal
-      → Front k (i + 1) (set l i v) (bytesOf (k - (i + 1)) m) goal
-  bytes-turn m h e d f = rw (e, d) (put (n % 256) h (rw (bytes-next k i n h) at f))
+  pub bytes-turn : (m : ℕ) → i < k → m ≡ n / 256 → Front k i l (bytesOf (k - i) n) goal
+      → Front k (i + 1) (set l i (n % 256)) (bytesOf (k - (i + 1)) m) goal
+  bytes-turn m h e f = rw e (put (n % 256) h (rw (bytes-next k i n h) at f))
 
   pub bytes-end : k ≤ i → Front k i l (bytesOf (k - i) n) goal → l ≡ goal
   unfolding bytesOf

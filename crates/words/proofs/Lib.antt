@@ -1,4 +1,5 @@
--- Laws of the definitions. Those above cite Stands, Laws, PowersOfTwo and Signed; the rest serves the proofs here.
+-- Laws of the definitions. Those above cite Stands, Laws, SumLaws, PowersOfTwo and Signed, and Choice and Tables in proofs of their own; the rest serves
+-- the proofs here.
 pub mod Choice
 pub mod Stands
 pub mod Corrections

@@ -1,5 +1,4 @@
 -- The bytes are joined from the last to the first, as the number is defined.
-use native.Mathlib.Omega.{arith}
 use borrow.Author.Needs.{needs}
 use Rattle.wire.proofs.Bytes.{number-read}
 use Rattle.wire.proofs.elements.read_element.Statement.{statement}
@@ -13,4 +12,16 @@ read-element-spec =
     (λ c κs. search needs) (λ c κs. search needs) (λ c κs. search needs) (λ c κs. search needs)
     (λ c. search needs) (λ c. search needs) (λ c. search needs) (λ c. search needs)
     (λ c κs. search needs) (λ c κs. search needs) (λ c κs. search needs) (λ c κs. search needs)
-    (λ c. number-read 8 _ (search needs) (omega arith)))
+    (λ c.
+    let hi = c .before .before .before .before .before .before .before .before in
+    number-read 8 _ (search needs)
+    (rw (
+      c .join8 .ensures .0,
+      c .before .join7 .ensures .0,
+      c .before .before .join6 .ensures .0,
+      c .before .before .before .join5 .ensures .0,
+      hi .join4 .ensures .0,
+      hi .before .join3 .ensures .0,
+      hi .before .before .join2 .ensures .0,
+      hi .before .before .before .join .ensures .0,
+    ))))

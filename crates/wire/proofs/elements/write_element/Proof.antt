@@ -1,4 +1,4 @@
--- The bytes of the canonical form, the low byte first. The loop's invariant: the bytes written and those of the rest make them all.
+-- The bytes of the canonical form. The loop's invariant: those written and those of the rest make them all.
 use mathlib.Core.Path.{refl, ap}
 use Prim.Native.Nat.{_-_}
 use native.Mathlib.Omega.{arith}
@@ -23,6 +23,6 @@ write-element-spec =
     (λ c κs. search needs)
     (λ c. begun (search needs) (ap (bytesOf 8) (omega (arith, canonical-is (c .before .before .args .x) (search needs)))))
     (λ c. search needs) (λ c. search needs) (λ c. search needs) (λ c. search needs)
-    (λ c. bytes-turn 8 _ _ _ (search needs) refl refl (c .before .loop .inv))
+    (λ c. bytes-turn 8 _ _ _ (search needs) refl (c .before .loop .inv))
     (λ c. search needs)
     (λ c. bytes-end 8 _ _ (search needs) (c .before .loop .inv)))
