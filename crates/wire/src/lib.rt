@@ -1,4 +1,5 @@
-// Words as bytes, and back: an element is 8 bytes, little-endian, canonical. Stands for `RawDataSerializable` and its reader, by document 01's rules.
+// Words as bytes, and back, by document 01's rules: an element is 8 bytes, little-endian, canonical. The Rust writes them by
+// `RawDataSerializable`, and has serde to read one.
 mod answers;
 mod elements;
 mod lists;

@@ -11,7 +11,7 @@ use mir.Syntax.{w64}
 use mir.Val.{Fits}
 use Rattle.prime.specs.Modulus.{P}
 use Rattle.words.specs.Limbs.{limbs}
-use Rattle.words.specs.Sums.{limit, total, products, lowSum, highSum}
+use Rattle.words.specs.Sums.{limit, total, products, lowSum, highSum, foldedSum}
 use Rattle.words.proofs.Carries.{limbs-word}
 use Rattle.words.proofs.Totals.{each-word, each-product, products-length, low-fits, high-fits}
 
@@ -87,5 +87,5 @@ module _ {xs ys : List ℕ} {i low high : ℕ} (s : Running xs ys i low high) (h
   pub folded-room : low + limbs (P - high) 0 < 2 ^ 128
   folded-room = rw (limbs-word (P - high), low-whole) (lt-of-le-of-lt (add-le-add (le-refl _) (sub-le P high)) (s .low-room))
 
-  pub folded : {r : ℕ} → r ≡ low + limbs (P - high) 0 → r ≡ lowSum (products xs ys) + P - highSum (products xs ys)
+  pub folded : {r : ℕ} → r ≡ low + limbs (P - high) 0 → r ≡ foldedSum (products xs ys)
   folded p = rw (← low-whole, ← high-whole) (omega (arith, limbs-word (P - high), high-end))

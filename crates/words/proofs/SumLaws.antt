@@ -16,10 +16,10 @@ use Rattle.prime.specs.Lists.{Each}
 use Rattle.prime.proofs.Congruence.{same, add-same}
 use Rattle.words.specs.Limbs.{largest}
 use Rattle.words.specs.Words.{addWord, wideWord, mulWord}
-use Rattle.words.specs.Sums.{limit, total, sumWord, products, lowSum, highSum, offset, lessOffset, dotProducts, dotWord, dotTaken, dotRefusal}
+use Rattle.words.specs.Sums.{limit, total, sumWord, products, lowSum, highSum, foldedSum, offset, lessOffset, dotProducts, dotWord, dotTaken}
 use Rattle.words.specs.declared.answers.Refusal.the-variants.{LengthsDiffer, TooMany}
 use Rattle.words.specs.declared.answers.Answer.the-variants.{Word, Refused}
-use Rattle.words.specs.Promises.{Answered}
+use Rattle.words.specs.Promises.{Summed, Dotted}
 use Rattle.words.proofs.Choice.{by-lt}
 use Rattle.words.proofs.Stands.{Stands, itself, to, granted, refused}
 use Rattle.words.proofs.Laws.{add-stands, wide-stands}
@@ -79,8 +79,7 @@ sum-stands (x ∷ y ∷ z ∷ []) h l =
     (add-stands (addWord x y) z (two .below) (h .1 .1 .0))
 sum-stands (x ∷ y ∷ z ∷ w ∷ ws) h l = wide-stands (total (x ∷ y ∷ z ∷ w ∷ ws)) (total-fits (x ∷ y ∷ z ∷ w ∷ ws) h (lt-of-le-of-lt l (lit< tt)))
 
-pub summed : (ws : List ℕ) → ((j : ℕ) → Fits w64 (getD ws j 0)) → length ws ≤ limit → {v : ℕ} → v ≡ sumWord ws
-    → Answered (leb (length ws) limit) 5 (sumWord ws) (total ws % P) (Word v)
+pub summed : (ws : List ℕ) → ((j : ℕ) → Fits w64 (getD ws j 0)) → length ws ≤ limit → {v : ℕ} → v ≡ sumWord ws → Summed ws (Word v)
 summed ws f l e = granted (leb (length ws) limit) (le-leb (length ws) limit l) e (sum-stands ws (each-word ws f) l)
 
 -- ---- the rule of dot, by the number of pairs
@@ -111,10 +110,10 @@ module _ (xs ys : List ℕ) (e : length xs ≡ length ys) where
       rw (k, f, g, ← product-at xs ys 0 (omega arith) (omega arith), ← product-at xs ys 1 (omega arith) (omega arith))
       (ap dotProducts (sym (counted h)))
 
-  pub dot-more : 2 < length xs → wideWord (lowSum (products xs ys) + P - highSum (products xs ys)) ≡ dotWord xs ys
+  pub dot-more : 2 < length xs → wideWord (foldedSum (products xs ys)) ≡ dotWord xs ys
   unfolding dotProducts
   dot-more h =
-      subst⁻¹ (λ (l : List ℕ). wideWord (lowSum l + P - highSum l) ≡ dotProducts l) (at-least 3 (products xs ys) (rw (products-length xs ys e) h)) refl
+      subst⁻¹ (λ (l : List ℕ). wideWord (foldedSum l) ≡ dotProducts l) (at-least 3 (products xs ys) (rw (products-length xs ys e) h)) refl
 
 -- two products, less the offset
 below-offset : (s m w o : ℕ) → 0 < w → s ≤ m → m < w + o → s - o < w
@@ -144,14 +143,13 @@ dot-stands (p ∷ q ∷ s ∷ ps) h l =
     (folded-stands (lowSum (p ∷ q ∷ s ∷ ps)) (highSum (p ∷ q ∷ s ∷ ps)) (high-fits (p ∷ q ∷ s ∷ ps) h l) (low-fits (p ∷ q ∷ s ∷ ps) h l))
 
 module _ (xs ys : List ℕ) where
-  pub dotted : ((j : ℕ) → Fits w64 (getD xs j 0)) → ((j : ℕ) → Fits w64 (getD ys j 0)) → length xs ≡ length ys → length xs ≤ limit → {v : ℕ} → v ≡ dotWord xs ys
-      → Answered (dotTaken xs ys) (dotRefusal xs ys) (dotWord xs ys) (total (products xs ys) % P) (Word v)
+  pub dotted : ((j : ℕ) → Fits w64 (getD xs j 0)) → ((j : ℕ) → Fits w64 (getD ys j 0)) → length xs ≡ length ys → length xs ≤ limit → {v : ℕ} → v ≡ dotWord xs ys → Dotted xs ys (Word v)
   dotted f g e l q =
       granted (dotTaken xs ys) (rw (eq-eqb (length xs) (length ys) e) (le-leb (length xs) limit l)) q
       (dot-stands (products xs ys) (each-product xs ys (each-word xs f) (each-word ys g)) (rw (products-length xs ys e) l))
 
-  pub lengths-differ : (length xs ≡ length ys → ⊥) → Answered (dotTaken xs ys) (dotRefusal xs ys) (dotWord xs ys) (total (products xs ys) % P) (Refused LengthsDiffer)
+  pub lengths-differ : (length xs ≡ length ys → ⊥) → Dotted xs ys (Refused LengthsDiffer)
   lengths-differ n = rw (ne-eqb (length xs) (length ys) n) (refused false LengthsDiffer refl)
 
-  pub too-many : length xs ≡ length ys → limit < length xs → Answered (dotTaken xs ys) (dotRefusal xs ys) (dotWord xs ys) (total (products xs ys) % P) (Refused TooMany)
+  pub too-many : length xs ≡ length ys → limit < length xs → Dotted xs ys (Refused TooMany)
   too-many e h = rw (eq-eqb (length xs) (length ys) e) (refused (leb (length xs) limit) TooMany (lt-leb (length xs) limit h))

@@ -39,6 +39,10 @@ lowSum ps = total (map (λ (p : ℕ). p % 2 ^ 96) ps)
 abbrev pub highSum : List ℕ → ℕ
 highSum ps = total (map (λ (p : ℕ). p / 2 ^ 96) ps)
 
+-- "L+P-H".
+abbrev pub foldedSum : List ℕ → ℕ
+foldedSum ps = lowSum ps + P - highSum ps
+
 -- The multiple of P that two pairs lose, P·(2^64+2^32-1).
 abbrev pub offset : ℕ
 offset = P * (2 ^ 64 + 2 ^ 32 - 1)
@@ -52,7 +56,7 @@ unfoldable pub dotProducts : List ℕ → ℕ
 dotProducts [] = 0
 dotProducts (p ∷ []) = wideWord p
 dotProducts (p ∷ q ∷ []) = wideWord (lessOffset (p + q))
-dotProducts (p ∷ q ∷ s ∷ ps) = wideWord (lowSum (p ∷ q ∷ s ∷ ps) + P - highSum (p ∷ q ∷ s ∷ ps))
+dotProducts (p ∷ q ∷ s ∷ ps) = wideWord (foldedSum (p ∷ q ∷ s ∷ ps))
 
 -- "dot" of two lists of one length.
 abbrev pub dotWord : List ℕ → List ℕ → ℕ

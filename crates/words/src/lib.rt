@@ -1,4 +1,4 @@
-// All that works on single words, ported from the scalar part of p3-goldilocks (`src/goldilocks.rs`), in the order of document 01.
+// All that works on words and their limbs, ported from the scalar part of p3-goldilocks (`src/goldilocks.rs`), in the order of document 01.
 // A word is any u64 and stands for the element x mod P. No operation asks anything of its caller.
 mod additive;
 mod answers;

@@ -1,12 +1,10 @@
 // Sums and dot products. Ports `sum_array`, `Sum` and `dot_product`; the Rust's u128 is two limbs.
 ghost use mathlib.Core.Path.{_≡_};
-ghost use Prim.Native.Nat.{_+_, _-_, _/_, _%_, _^_, _<_, _≤_};
-ghost use lib.Dec.{leb};
+ghost use Prim.Native.Nat.{_+_, _/_, _%_, _^_, _<_, _≤_};
 ghost use lib.ListN.{length};
-ghost use Rattle.prime.specs.Modulus.{P};
 ghost use Rattle.words.specs.Limbs.{limbs, largest};
-ghost use Rattle.words.specs.Sums.{limit, total, sumWord, products, lowSum, highSum, lessOffset, dotWord, dotTaken, dotRefusal};
-ghost use Rattle.words.specs.Promises.{Answered};
+ghost use Rattle.words.specs.Sums.{limit, total, products, foldedSum, lessOffset};
+ghost use Rattle.words.specs.Promises.{Summed, Dotted};
 use super::ORDER_U64;
 use super::additive::add;
 use super::answers::Answer;
@@ -55,7 +53,7 @@ fn exact_sum(input: &[u64]) -> Limbs
 
 // The sum of the words: below four by add, from four on by one reduction of the exact sum.
 pub fn sum_array(input: &[u64]) -> Answer
-    ensures { λ r. ⌜ Answered (leb (length (now (input .entry))) limit) 5 (sumWord (now (input .entry))) (total (now (input .entry)) % P) r ⌝ }
+    ensures { λ r. ⌜ Summed (now (input .entry)) r ⌝ }
 {
     let n = input.len();
     if LIMIT < n {
@@ -115,8 +113,7 @@ fn above_96(n: Limbs) -> u64
 // sum loses a carry.
 fn folded_dot(lhs: &[u64], rhs: &[u64]) -> Limbs
     requires { ⌜ (length (now lhs) ≡ length (now rhs)) × (length (now lhs) ≤ limit) ⌝ }
-    ensures { λ r. ⌜ limbs (r .lo) (r .hi)
-        ≡ lowSum (products (now (lhs .entry)) (now (rhs .entry))) + P - highSum (products (now (lhs .entry)) (now (rhs .entry))) ⌝ }
+    ensures { λ r. ⌜ limbs (r .lo) (r .hi) ≡ foldedSum (products (now (lhs .entry)) (now (rhs .entry))) ⌝ }
 {
     let mut low = Limbs { lo: 0, hi: 0 };
     let mut high = 0;
@@ -133,8 +130,7 @@ fn folded_dot(lhs: &[u64], rhs: &[u64]) -> Limbs
 
 // The sum of the products, pair by pair: one by mul, two and more by one reduction.
 pub fn dot_product(lhs: &[u64], rhs: &[u64]) -> Answer
-    ensures { λ r. ⌜ Answered (dotTaken (now (lhs .entry)) (now (rhs .entry))) (dotRefusal (now (lhs .entry)) (now (rhs .entry)))
-        (dotWord (now (lhs .entry)) (now (rhs .entry))) (total (products (now (lhs .entry)) (now (rhs .entry))) % P) r ⌝ }
+    ensures { λ r. ⌜ Dotted (now (lhs .entry)) (now (rhs .entry)) r ⌝ }
 {
     let n = lhs.len();
     if n != rhs.len() {
