@@ -7,6 +7,7 @@ use native.Mathlib.Omega.{arith}
 use native.Mathlib.Nat.{le-antisymm, eq-or-lt-of-le}
 use Rattle.prime.specs.Search.{least}
 
+-- k is the least number below n that passes t, or n where none does
 pub record Least (t : ℕ → Bool) (n k : ℕ) : Type 0 where
   pub within : k ≤ n
   pub passes : k < n → t k ≡ true

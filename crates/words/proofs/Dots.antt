@@ -7,13 +7,11 @@ use native.Mathlib.Numerals.{add-one}
 use native.Mathlib.Omega.{arith}
 use lib.ListN.{length, drop, getD, drop-of-length-le}
 use lib.Seq.{drop-cons}
-use mir.Syntax.{w64}
-use mir.Val.{Fits}
 use Rattle.prime.specs.Modulus.{P}
 use Rattle.words.specs.Limbs.{limbs}
 use Rattle.words.specs.Sums.{limit, total, products, lowSum, highSum, foldedSum}
 use Rattle.words.proofs.Carries.{limbs-word}
-use Rattle.words.proofs.Totals.{each-word, each-product, products-length, low-fits, high-fits}
+use Rattle.words.proofs.Totals.{Slice, each-word, each-product, products-length, low-fits, high-fits}
 
 -- the sum of a part f of each product: one more pair, and the end
 module _ (f : ℕ → ℕ) (xs ys : List ℕ) (i : ℕ) where
@@ -35,8 +33,7 @@ pub record Running (xs ys : List ℕ) (i low high : ℕ) : Type 0 where
   pub low-room : lowSum (products xs ys) + P < 2 ^ 128
   pub high-room : highSum (products xs ys) ≤ P
 
-pub starts : (xs ys : List ℕ) → ((j : ℕ) → Fits w64 (getD xs j 0)) → ((j : ℕ) → Fits w64 (getD ys j 0)) → length xs ≡ length ys → length xs ≤ limit
-    → Running xs ys 0 (limbs 0 0) 0
+pub starts : (xs ys : List ℕ) → Slice xs → Slice ys → length xs ≡ length ys → length xs ≤ limit → Running xs ys 0 (limbs 0 0) 0
 starts xs ys f g e l = record {
   passed = omega arith;
   paired = e;

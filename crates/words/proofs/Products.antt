@@ -4,7 +4,7 @@ use Prim.Native.Nat.{ℕ, _+_, _-_, _*_, _/_, _%_, _^_, _<_, _≤_}
 use native.Mathlib.Nat.{le-of-lt, lt-of-le-of-lt, mul-le-mul, mul-le-mul-left, mul-lt-mul-of-pos-right, div-add-mod, mod-add-div}
 use native.Mathlib.Omega.{arith}
 use lib.Pow.{pow-add, pow-pos}
-use Rattle.words.specs.Limbs.{limbs, partial, largest}
+use Rattle.words.specs.Limbs.{limbs, largest}
 use Rattle.words.specs.Words.{lessP, plusP, reduceWord, wideWord}
 
 pub product-below : (k : ℕ) {a b : ℕ} → a < 2 ^ k → b < 2 ^ k → a * b < 2 ^ (k + k)
@@ -12,14 +12,12 @@ product-below k {a} {b} h i =
     subst⁻¹ (λ (n : ℕ). a * b < n) (pow-add 2 k k)
     (lt-of-le-of-lt (mul-le-mul-left a (le-of-lt i)) (mul-lt-mul-of-pos-right h (pow-pos k)))
 
-pub halves-below : {a b : ℕ} → a < 2 ^ 32 → b < 2 ^ 32 → a * b ≤ partial
-halves-below h k = mul-le-mul {n₂ = 2 ^ 32 - 1} {m₂ = 2 ^ 32 - 1} (omega arith) (omega arith)
+pub product-most : (k : ℕ) {a b : ℕ} → a < 2 ^ k → b < 2 ^ k → a * b ≤ largest k
+product-most k h i = mul-le-mul {n₂ = 2 ^ k - 1} {m₂ = 2 ^ k - 1} (omega arith) (omega arith)
 
-pub words-below : {a b : ℕ} → a < 2 ^ 64 → b < 2 ^ 64 → a * b ≤ largest
-words-below h k = mul-le-mul {n₂ = 2 ^ 64 - 1} {m₂ = 2 ^ 64 - 1} (omega arith) (omega arith)
-
-pub bounded : {a b n : ℕ} → a < 2 ^ 64 → b < 2 ^ 64 → n ≡ a * b → (n ≡ a * b) × (n ≤ largest)
-bounded h k e = (e, rw e (words-below h k))
+-- a number known to be a product, with its bound
+pub bounded : (k : ℕ) {a b n : ℕ} → a < 2 ^ k → b < 2 ^ k → n ≡ a * b → (n ≡ a * b) × (n ≤ largest k)
+bounded k h i e = (e, rw e (product-most k h i))
 
 -- the product of two words by their halves
 expand : (a b c d : ℕ) → (2 ^ 32 * a + b) * (2 ^ 32 * c + d) ≡ 2 ^ 64 * (a * c) + 2 ^ 32 * (b * c + a * d) + b * d

@@ -5,25 +5,22 @@ use mathlib.Core.List.{List, [], _∷_}
 use Prim.Native.Nat.{ℕ, zero, suc, _+_, _-_, _*_, _%_, _^_, _<_, _≤_}
 use native.Mathlib.Nat.{add-le-add, lt-of-le-of-lt, le-trans, zero-add, add-zero, sub-le, sub-add-cancel}
 use native.Mathlib.Omega.{arith}
-use lib.Dec.{leb, lit<, lit≤}
+use lib.Dec.{eqb, leb, lit<, lit≤}
 use lib.ListN.{length, drop, getD, drop-of-length-le}
 use lib.Seq.{drop-cons}
-use mir.Syntax.{w64}
-use mir.Val.{Fits}
 use borrow.Author.Tests.{le-leb, lt-leb, eq-eqb, ne-eqb}
 use Rattle.prime.specs.Modulus.{P}
-use Rattle.prime.specs.Lists.{Each}
 use Rattle.prime.proofs.Congruence.{same, add-same}
 use Rattle.words.specs.Limbs.{largest}
 use Rattle.words.specs.Words.{addWord, wideWord, mulWord}
-use Rattle.words.specs.Sums.{limit, total, sumWord, products, lowSum, highSum, foldedSum, offset, lessOffset, dotProducts, dotWord, dotTaken}
+use Rattle.words.specs.Sums.{limit, total, sumWord, products, lowSum, highSum, foldedSum, offset, lessOffset, dotProducts, dotWord, dotRefusal}
 use Rattle.words.specs.declared.answers.Refusal.the-variants.{LengthsDiffer, TooMany}
 use Rattle.words.specs.declared.answers.Answer.the-variants.{Word, Refused}
 use Rattle.words.specs.Promises.{Summed, Dotted}
 use Rattle.words.proofs.Choice.{by-lt}
 use Rattle.words.proofs.Stands.{Stands, itself, to, granted, refused}
 use Rattle.words.proofs.Laws.{add-stands, wide-stands}
-use Rattle.words.proofs.Totals.{each-word, total-fits, each-product, products-length, low-fits, high-fits}
+use Rattle.words.proofs.Totals.{Slice, Words, Products, each-word, total-fits, each-product, products-length, low-fits, high-fits}
 
 -- ---- a list by its first k entries
 
@@ -68,7 +65,7 @@ module _ (ws : List ℕ) where
   unfolding sumWord
   sum-more h = subst⁻¹ (λ (l : List ℕ). wideWord (total l) ≡ sumWord l) (at-least 4 ws h) refl
 
-pub sum-stands : (ws : List ℕ) → Each (λ (w : ℕ). w < 2 ^ 64) ws → length ws ≤ limit → Stands (total ws % P) (sumWord ws)
+pub sum-stands : (ws : List ℕ) → Words ws → length ws ≤ limit → Stands (total ws % P) (sumWord ws)
 unfolding total sumWord
 sum-stands [] h l = itself 0 (lit< tt)
 sum-stands (x ∷ []) h l = to (same P x (x + 0) 0 0 (omega arith)) (itself x (h .0))
@@ -79,7 +76,7 @@ sum-stands (x ∷ y ∷ z ∷ []) h l =
     (add-stands (addWord x y) z (two .below) (h .1 .1 .0))
 sum-stands (x ∷ y ∷ z ∷ w ∷ ws) h l = wide-stands (total (x ∷ y ∷ z ∷ w ∷ ws)) (total-fits (x ∷ y ∷ z ∷ w ∷ ws) h (lt-of-le-of-lt l (lit< tt)))
 
-pub summed : (ws : List ℕ) → ((j : ℕ) → Fits w64 (getD ws j 0)) → length ws ≤ limit → {v : ℕ} → v ≡ sumWord ws → Summed ws (Word v)
+pub summed : (ws : List ℕ) → Slice ws → length ws ≤ limit → {v : ℕ} → v ≡ sumWord ws → Summed ws (Word v)
 summed ws f l e = granted (leb (length ws) limit) (le-leb (length ws) limit l) e (sum-stands ws (each-word ws f) l)
 
 -- ---- the rule of dot, by the number of pairs
@@ -104,7 +101,8 @@ module _ (xs ys : List ℕ) (e : length xs ≡ length ys) where
   unfolding mulWord dotProducts
   dot-one h = rw (← product-at xs ys 0 (omega arith) (omega arith)) (ap dotProducts (sym (counted h)))
 
-  pub dot-two : length xs ≡ 2 → {p q s : ℕ} → p ≡ getD xs 0 0 * getD ys 0 0 → q ≡ getD xs 1 0 * getD ys 1 0 → s ≡ lessOffset (p + q) → wideWord s ≡ dotWord xs ys
+  pub dot-two : length xs ≡ 2 → {p q s : ℕ} → p ≡ getD xs 0 0 * getD ys 0 0 → q ≡ getD xs 1 0 * getD ys 1 0 → s ≡ lessOffset (p + q)
+      → wideWord s ≡ dotWord xs ys
   unfolding dotProducts
   dot-two h f g k =
       rw (k, f, g, ← product-at xs ys 0 (omega arith) (omega arith), ← product-at xs ys 1 (omega arith) (omega arith))
@@ -119,10 +117,10 @@ module _ (xs ys : List ℕ) (e : length xs ≡ length ys) where
 below-offset : (s m w o : ℕ) → 0 < w → s ≤ m → m < w + o → s - o < w
 below-offset s m w o z h k = omega arith
 
-two-stand : (p q : ℕ) → p ≤ largest → q ≤ largest → Stands ((p + q) % P) (wideWord (lessOffset (p + q)))
+two-stand : (p q : ℕ) → p ≤ largest 64 → q ≤ largest 64 → Stands ((p + q) % P) (wideWord (lessOffset (p + q)))
 two-stand p q h k = by-lt (λ (n : ℕ). Stands ((p + q) % P) (wideWord n)) (p + q) (2 ^ 128) (λ t. wide-stands (p + q) t)
     (λ t. to (same P (p + q - offset) (p + q) (2 ^ 64 + 2 ^ 32 - 1) 0 (sub-add-cancel (le-trans (lit≤ tt) t) ∙ sym (add-zero (p + q))))
-    (wide-stands (p + q - offset) (below-offset (p + q) (largest + largest) (2 ^ 128) offset (lit< tt) (add-le-add h k) (lit< tt))))
+    (wide-stands (p + q - offset) (below-offset (p + q) (largest 64 + largest 64) (2 ^ 128) offset (lit< tt) (add-le-add h k) (lit< tt))))
 
 -- 2^96 is -1 modulo P, so that the parts above 96 bits are taken away
 parts-total : (ps : List ℕ) → total ps ≡ lowSum ps + 2 ^ 96 * highSum ps
@@ -133,7 +131,7 @@ parts-total (p ∷ ps) = omega (arith, parts-total ps)
 folded-stands : (l h : ℕ) → h ≤ P → l + P < 2 ^ 128 → Stands ((l + 2 ^ 96 * h) % P) (wideWord (l + P - h))
 folded-stands l h k f = to (same P (l + P - h) (l + 2 ^ 96 * h) ((2 ^ 32 + 1) * h) 1 (omega arith)) (wide-stands (l + P - h) (lt-of-le-of-lt (sub-le (l + P) h) f))
 
-pub dot-stands : (ps : List ℕ) → Each (λ (p : ℕ). p ≤ largest) ps → length ps ≤ limit → Stands (total ps % P) (dotProducts ps)
+pub dot-stands : (ps : List ℕ) → Products ps → length ps ≤ limit → Stands (total ps % P) (dotProducts ps)
 unfolding total dotProducts
 dot-stands [] h l = itself 0 (lit< tt)
 dot-stands (p ∷ []) h l = to (same P p (p + 0) 0 0 (omega arith)) (wide-stands p (lt-of-le-of-lt (h .0) (lit< tt)))
@@ -142,14 +140,15 @@ dot-stands (p ∷ q ∷ s ∷ ps) h l =
     to (ap (λ (n : ℕ). n % P) (sym (parts-total (p ∷ q ∷ s ∷ ps))))
     (folded-stands (lowSum (p ∷ q ∷ s ∷ ps)) (highSum (p ∷ q ∷ s ∷ ps)) (high-fits (p ∷ q ∷ s ∷ ps) h l) (low-fits (p ∷ q ∷ s ∷ ps) h l))
 
+-- what is promised of an answer, by the tests that led to it
 module _ (xs ys : List ℕ) where
-  pub dotted : ((j : ℕ) → Fits w64 (getD xs j 0)) → ((j : ℕ) → Fits w64 (getD ys j 0)) → length xs ≡ length ys → length xs ≤ limit → {v : ℕ} → v ≡ dotWord xs ys → Dotted xs ys (Word v)
+  pub dotted : Slice xs → Slice ys → length xs ≡ length ys → length xs ≤ limit → {v : ℕ} → v ≡ dotWord xs ys → Dotted xs ys (Word v)
   dotted f g e l q =
-      granted (dotTaken xs ys) (rw (eq-eqb (length xs) (length ys) e) (le-leb (length xs) limit l)) q
+      granted (eqb (dotRefusal xs ys) 0) (rw (eq-eqb (length xs) (length ys) e, le-leb (length xs) limit l)) q
       (dot-stands (products xs ys) (each-product xs ys (each-word xs f) (each-word ys g)) (rw (products-length xs ys e) l))
 
   pub lengths-differ : (length xs ≡ length ys → ⊥) → Dotted xs ys (Refused LengthsDiffer)
   lengths-differ n = rw (ne-eqb (length xs) (length ys) n) (refused false LengthsDiffer refl)
 
   pub too-many : length xs ≡ length ys → limit < length xs → Dotted xs ys (Refused TooMany)
-  too-many e h = rw (eq-eqb (length xs) (length ys) e) (refused (leb (length xs) limit) TooMany (lt-leb (length xs) limit h))
+  too-many e h = rw (eq-eqb (length xs) (length ys) e, lt-leb (length xs) limit h) (refused false TooMany refl)

@@ -15,35 +15,45 @@ use Rattle.prime.specs.Modulus.{P}
 use Rattle.prime.specs.Lists.{Each}
 use Rattle.words.specs.Limbs.{limbs, largest}
 use Rattle.words.specs.Sums.{limit, total, products, lowSum, highSum}
-use Rattle.words.proofs.Products.{product-below, words-below}
+use Rattle.words.proofs.Products.{product-below, product-most}
 use Rattle.words.proofs.Carries.{limbs-word}
 
--- a slice of words, entry by entry
-pub each-word : (ws : List ℕ) → ((i : ℕ) → Fits w64 (getD ws i 0)) → Each (λ (w : ℕ). w < 2 ^ 64) ws
+-- what is known of a slice of words, by place and entry by entry
+abbrev pub Slice : List ℕ → Type 0
+Slice ws = (i : ℕ) → Fits w64 (getD ws i 0)
+
+abbrev pub Words : List ℕ → Type 0
+Words ws = Each (λ (w : ℕ). w < 2 ^ 64) ws
+
+pub each-word : (ws : List ℕ) → Slice ws → Words ws
 each-word [] h = tt
 each-word (w ∷ ws) h = (h 0 .fits, each-word ws (λ i. h (suc i)))
 
 -- ---- bounds, over the number of entries
 
 -- where f takes no entry above k, the sum of what it gives is at most k for each
-sum-bound : (f : ℕ → ℕ) (Q : ℕ → Type 0) (k : ℕ) → ((x : ℕ) → Q x → f x ≤ k) → (ws : List ℕ) → Each Q ws → total (map f ws) ≤ length ws * k
+sum-bound : (f : ℕ → ℕ) (Q : ℕ → Type 0) (k : ℕ) → ((x : ℕ) → Q x → f x ≤ k)
+    → (ws : List ℕ) → Each Q ws → total (map f ws) ≤ length ws * k
 unfolding total
 sum-bound f Q k g [] h = omega arith
 sum-bound f Q k g (w ∷ ws) h = omega (arith, g w (h .0), sum-bound f Q k g ws (h .1))
 
 -- the exact sum of words
-pub total-fits : (ws : List ℕ) → Each (λ (w : ℕ). w < 2 ^ 64) ws → length ws < 2 ^ 64 → total ws < 2 ^ 128
+pub total-fits : (ws : List ℕ) → Words ws → length ws < 2 ^ 64 → total ws < 2 ^ 128
 total-fits ws h k =
     rw (map-id ws)
     at (lt-of-le-of-lt (sum-bound (λ w. w) (λ w. w < 2 ^ 64) (2 ^ 64 - 1) (λ w l. omega arith) ws h) (product-below 64 k (lit< tt)))
 
--- the products of two slices of words
-pub each-product : (xs ys : List ℕ) → Each (λ (w : ℕ). w < 2 ^ 64) xs → Each (λ (w : ℕ). w < 2 ^ 64) ys → Each (λ (p : ℕ). p ≤ largest) (products xs ys)
+-- the products of words
+abbrev pub Products : List ℕ → Type 0
+Products ps = Each (λ (p : ℕ). p ≤ largest 64) ps
+
+pub each-product : (xs ys : List ℕ) → Words xs → Words ys → Products (products xs ys)
 unfolding products
 each-product [] [] h k = tt
 each-product [] (y ∷ ys) h k = tt
 each-product (x ∷ xs) [] h k = tt
-each-product (x ∷ xs) (y ∷ ys) h k = (words-below (h .0) (k .0), each-product xs ys (h .1) (k .1))
+each-product (x ∷ xs) (y ∷ ys) h k = (product-most 64 (h .0) (k .0), each-product xs ys (h .1) (k .1))
 
 pub products-length : (xs ys : List ℕ) → length xs ≡ length ys → length (products xs ys) ≡ length xs
 unfolding products
@@ -52,12 +62,12 @@ products-length [] (y ∷ ys) h = refl
 products-length (x ∷ xs) [] h = omega arith
 products-length (x ∷ xs) (y ∷ ys) h = ap suc (products-length xs ys (omega arith))
 
-module _ (ps : List ℕ) (e : Each (λ (p : ℕ). p ≤ largest) ps) where
+module _ (ps : List ℕ) (e : Products ps) where
   pub low-bound : lowSum ps ≤ length ps * (2 ^ 96 - 1)
-  low-bound = sum-bound (λ p. p % 2 ^ 96) (λ p. p ≤ largest) (2 ^ 96 - 1) (λ p h. omega arith) ps e
+  low-bound = sum-bound (λ p. p % 2 ^ 96) (λ p. p ≤ largest 64) (2 ^ 96 - 1) (λ p h. omega arith) ps e
 
   pub high-bound : highSum ps ≤ length ps * (2 ^ 32 - 1)
-  high-bound = sum-bound (λ p. p / 2 ^ 96) (λ p. p ≤ largest) (2 ^ 32 - 1) (λ p h. le-of-suc-le-suc (shr-lt 32 96 (lt-of-le-of-lt h (lit< tt)))) ps e
+  high-bound = sum-bound (λ p. p / 2 ^ 96) (λ p. p ≤ largest 64) (2 ^ 32 - 1) (λ p h. le-of-suc-le-suc (shr-lt 32 96 (lt-of-le-of-lt h (lit< tt)))) ps e
 
   -- so up to the limit no carry is lost
   pub low-fits : length ps ≤ limit → lowSum ps + P < 2 ^ 128
@@ -74,7 +84,7 @@ module _ (ws : List ℕ) (i s : ℕ) (e : s + total (drop i ws) ≡ total ws) wh
   unfolding total
   total-next h = rw (add-one i, drop-cons ws i 0 h)
 
-  pub total-room : i < length ws → ((j : ℕ) → Fits w64 (getD ws j 0)) → length ws < 2 ^ 64 → s + limbs (getD ws i 0) 0 < 2 ^ 128
+  pub total-room : i < length ws → Slice ws → length ws < 2 ^ 64 → s + limbs (getD ws i 0) 0 < 2 ^ 128
   total-room h f k =
       let below : s + limbs (getD ws i 0) 0 ≤ total ws = omega (arith, total-next h, limbs-word (getD ws i 0)) in
       lt-of-le-of-lt below (total-fits ws (each-word ws f) k)

@@ -5,10 +5,6 @@ use Prim.Native.Nat.{ℕ, _+_, _-_, _*_, _^_}
 unfoldable pub limbs : ℕ → ℕ → ℕ
 limbs lo hi = lo + 2 ^ 64 * hi
 
--- The largest product of two numbers of 32 bits.
-abbrev pub partial : ℕ
-partial = (2 ^ 32 - 1) * (2 ^ 32 - 1)
-
--- The largest product of two words.
-abbrev pub largest : ℕ
-largest = (2 ^ 64 - 1) * (2 ^ 64 - 1)
+-- The largest product of two numbers of k bits.
+abbrev pub largest : ℕ → ℕ
+largest k = (2 ^ k - 1) * (2 ^ k - 1)

@@ -3,12 +3,12 @@ use mathlib.Core.Path.{_≡_}
 use mathlib.Core.Bool.{Bool, cond}
 use mathlib.Core.List.{List}
 use Prim.Native.Nat.{ℕ, _%_}
-use lib.Dec.{leb}
+use lib.Dec.{eqb, leb}
 use lib.ListN.{length}
 use Rattle.prime.specs.Modulus.{P}
 use Rattle.words.specs.declared.answers.Answer.{Answer}
 use Rattle.words.specs.Answers.{refusalOf, wordOf}
-use Rattle.words.specs.Sums.{limit, total, sumWord, products, dotWord, dotTaken, dotRefusal}
+use Rattle.words.specs.Sums.{limit, total, sumWord, products, dotWord, dotRefusal}
 
 -- The word r is w, and stands for the element e.
 pub record Held (w e r : ℕ) : Type 0 where
@@ -32,4 +32,4 @@ Summed ws r = Answered (leb (length ws) limit) 5 (sumWord ws) (total ws % P) r
 
 -- The sum of the products of xs and ys, pair by pair; lists that are not paired are refused 4, and more than the limit 5.
 abbrev pub Dotted : List ℕ → List ℕ → Answer → Type 0
-Dotted xs ys r = Answered (dotTaken xs ys) (dotRefusal xs ys) (dotWord xs ys) (total (products xs ys) % P) r
+Dotted xs ys r = Answered (eqb (dotRefusal xs ys) 0) (dotRefusal xs ys) (dotWord xs ys) (total (products xs ys) % P) r

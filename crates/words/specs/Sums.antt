@@ -1,5 +1,5 @@
 -- 01, "Held words, rule by rule": the words that sum and dot answer, over lists of words.
-use mathlib.Core.Bool.{Bool, cond, _&&_}
+use mathlib.Core.Bool.{cond}
 use mathlib.Core.List.{List, [], _∷_, map}
 use Prim.Native.Nat.{ℕ, _+_, _-_, _*_, _/_, _%_, _^_}
 use lib.Dec.{eqb, leb, ltb}
@@ -62,10 +62,6 @@ dotProducts (p ∷ q ∷ s ∷ ps) = wideWord (foldedSum (p ∷ q ∷ s ∷ ps))
 abbrev pub dotWord : List ℕ → List ℕ → ℕ
 dotWord xs ys = dotProducts (products xs ys)
 
--- Where dot is not refused: the lengths agree, and are no more than the limit.
-abbrev pub dotTaken : List ℕ → List ℕ → Bool
-dotTaken xs ys = eqb (length xs) (length ys) && leb (length xs) limit
-
--- "dot tests 4, then 5".
+-- "dot tests 4, then 5"; 0 where it refuses neither.
 abbrev pub dotRefusal : List ℕ → List ℕ → ℕ
-dotRefusal xs ys = cond (eqb (length xs) (length ys)) 5 4
+dotRefusal xs ys = cond (eqb (length xs) (length ys)) (cond (leb (length xs) limit) 0 5) 4

@@ -2,7 +2,7 @@
 ghost use mathlib.Core.Path.{_≡_};
 ghost use Prim.Native.Nat.{_+_, _*_, _%_, _^_, _<_, _≤_};
 ghost use Rattle.prime.specs.Modulus.{P};
-ghost use Rattle.words.specs.Limbs.{limbs, partial, largest};
+ghost use Rattle.words.specs.Limbs.{limbs, largest};
 ghost use Rattle.words.specs.Words.{reduceWord, mulWord};
 ghost use Rattle.words.specs.Promises.{Held};
 use super::NEG_ORDER;
@@ -21,7 +21,7 @@ pub(crate) struct Limbs {
 // The product of two numbers of 32 bits. Two carries of 32 bits may be added to it.
 fn mul_halves(a: u64, b: u64) -> u64
     requires { ⌜ (a < 2 ^ 32) × (b < 2 ^ 32) ⌝ }
-    ensures { λ r. ⌜ (r ≡ a * b) × (r ≤ partial) ⌝ }
+    ensures { λ r. ⌜ (r ≡ a * b) × (r ≤ largest 32) ⌝ }
 {
     a * b
 }
@@ -29,7 +29,7 @@ fn mul_halves(a: u64, b: u64) -> u64
 // The sum of four partial products, hh * 2^64 + (lh + hl) * 2^32 + ll. The upper limb is the ladder of the Rust's wasm arm, the low limb a
 // sum of its own: with the low limb taken from the ladder too, LLVM would not find that `mul_wide` is one multiply.
 fn join(ll: u64, lh: u64, hl: u64, hh: u64) -> Limbs
-    requires { ⌜ (ll ≤ partial) × (lh ≤ partial) × (hl ≤ partial) × (hh ≤ partial) ⌝ }
+    requires { ⌜ (ll ≤ largest 32) × (lh ≤ largest 32) × (hl ≤ largest 32) × (hh ≤ largest 32) ⌝ }
     ensures { λ r. ⌜ limbs (r .lo) (r .hi) ≡ 2 ^ 64 * hh + 2 ^ 32 * (lh + hl) + ll ⌝ }
 {
     let t0 = hl + high_bits(ll, 32);
@@ -41,7 +41,7 @@ fn join(ll: u64, lh: u64, hl: u64, hh: u64) -> Limbs
 
 // The full product of x and y, by halves of 32 bits.
 pub(crate) fn mul_wide(x: u64, y: u64) -> Limbs
-    ensures { λ r. ⌜ (limbs (r .lo) (r .hi) ≡ x * y) × (limbs (r .lo) (r .hi) ≤ largest) ⌝ }
+    ensures { λ r. ⌜ (limbs (r .lo) (r .hi) ≡ x * y) × (limbs (r .lo) (r .hi) ≤ largest 64) ⌝ }
 {
     let x_lo = low_bits(x, 32);
     let x_hi = high_bits(x, 32);

@@ -76,7 +76,7 @@ const NEG_OFFSET: u64 = 0xFFFF_FFFE_0000_0001;
 
 // p + q, less P * (2^64 + 2^32 - 1) if it is 2^128 or more.
 fn add_products(p: Limbs, q: Limbs) -> Limbs
-    requires { ⌜ (limbs (p .lo) (p .hi) ≤ largest) × (limbs (q .lo) (q .hi) ≤ largest) ⌝ }
+    requires { ⌜ (limbs (p .lo) (p .hi) ≤ largest 64) × (limbs (q .lo) (q .hi) ≤ largest 64) ⌝ }
     ensures { λ r. ⌜ limbs (r .lo) (r .hi) ≡ lessOffset (limbs (p .lo) (p .hi) + limbs (q .lo) (q .hi)) ⌝ }
 {
     let lo = wrapping_add_u64(p.lo, q.lo);

@@ -8,7 +8,7 @@ returns : tie.Need-returns
 returns c =
     let halves = c .before .before .before .before .before in
     let start = halves .before .before .before .before in
-    bounded {a = start .args .x} {b = start .args .y} (search needs) (search needs) (cc (by-halves (start .args .x) (start .args .y)))
+    bounded 64 {a = start .args .x} {b = start .args .y} (search needs) (search needs) (cc (by-halves (start .args .x) (start .args .y)))
 
 pub mul-wide-spec : {M : Type 1} → statement M
 mul-wide-spec =

@@ -30,7 +30,8 @@ returns-5 c =
     let start = arm .before .before .before in
     dotted _ _ (start .before .shared-slice-known .given) (start .shared-slice-known2 .given) (search needs) (search needs)
     (c .reduce128 .ensures .word ∙ reduce-limbs _ _ _ (search needs) refl
-    ∙ dot-two _ _ (search needs) (arm .match .keys3) (c .before .before .before .before .before .mul-wide .ensures .0) (c .before .before .mul-wide2 .ensures .0) (c .before .add-products .ensures))
+    ∙ dot-two _ _ (search needs) (arm .match .keys3)
+    (c .before .before .before .before .before .mul-wide .ensures .0) (c .before .before .mul-wide2 .ensures .0) (c .before .add-products .ensures))
 
 returns-6 : tie.Need-returns-6
 returns-6 c =

@@ -22,7 +22,9 @@ returns-3 : tie.Need-returns-3
 returns-3 c = summed _ (c .before .before .before .shared-slice-known .given) (search needs) (sum-one _ (c .before .match .keys2))
 
 returns-4 : tie.Need-returns-4
-returns-4 c = summed _ (c .before .before .before .before .before .shared-slice-known .given) (search needs) (c .add .ensures .word ∙ sum-two _ (c .before .before .before .match .keys3))
+returns-4 c =
+    summed _ (c .before .before .before .before .before .shared-slice-known .given) (search needs)
+    (c .add .ensures .word ∙ sum-two _ (c .before .before .before .match .keys3))
 
 returns-5 : tie.Need-returns-5
 returns-5 c =
