@@ -25,7 +25,7 @@ more a x h k r e =
 
 -- ---- the order of G
 
-generated : power P generator (2 ^ 32 - 1) ≡ G
+pub generated : power P generator (2 ^ 32 - 1) ≡ G
 unfolding fast
 generated = sym (fast-power generator (2 ^ 32 - 1)) ∙ eqb→eq (fast P generator (2 ^ 32 - 1)) G tt
 

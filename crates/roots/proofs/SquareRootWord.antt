@@ -43,6 +43,15 @@ unfolding exponent
 exponent-is x e h one =
     least-only _ (2 ^ 32) e h (eq-eqb _ _ one) (λ j l t. undone-once (power P x (2 ^ 32 - 1)) j e l h (eqb-true _ _ t) one)
 
+-- x^(2^31)·G^h squared is x^(2^32)·G^(h + h), that is x·(x^(2^32 - 1)·G^(h + h))
+pub squared : (x h r : ℕ) → r % P ≡ power P x (2 ^ 31) * power P G h % P → r * r % P ≡ x * power P x (2 ^ 32 - 1) * power P G (h + h) % P
+squared x h r e =
+    let a : ℕ = power P x (2 ^ 31) in
+    let g : ℕ = power P G h in
+    mul-same P r r (a * g) (a * g) e e ∙ ap (λ (n : ℕ). n % P) (let s : a * g * (a * g) ≡ a * a * (g * g) = omega arith in s)
+    ∙ mul-same P (a * a) (g * g) (x * power P x (2 ^ 32 - 1)) (power P G (h + h)) (sym (power-add x (2 ^ 31) (2 ^ 31)) ∙ power-suc P x (2 ^ 32 - 1))
+    (sym (power-add G h h) ∙ sym (power-mod P G (h + h)))
+
 module _ (x h : ℕ) (one : power P x (2 ^ 32 - 1) * power P G (h + h) % P ≡ 1) where
   pub root-is : x % P ≢ 0 → h + h < 2 ^ 32 → rootWord x ≡ power P x (2 ^ 31) * power P G h % P
   unfolding rootWord
@@ -50,22 +59,15 @@ module _ (x h : ℕ) (one : power P x (2 ^ 32 - 1) * power P G (h + h) % P ≡ 1
       rw (ne-eqb (x % P) 0 nonzero, exponent-is x (h + h) below one)
       (ap (λ (n : ℕ). power P x (2 ^ 31) * power P G n % P) (let half : (h + h) / 2 ≡ h = omega arith in half))
 
-  -- x^(2^31)·G^h squared is x^(2^32)·G^(h + h), that is x·(x^(2^32 - 1)·G^(h + h))
   pub root-squares : (r : ℕ) → r % P ≡ power P x (2 ^ 31) * power P G h % P → r * r % P ≡ x % P
-  root-squares r e =
-      let a : ℕ = power P x (2 ^ 31) in
-      let g : ℕ = power P G h in
-      mul-same P r r (a * g) (a * g) e e ∙ ap (λ (n : ℕ). n % P) (let s : a * g * (a * g) ≡ a * a * (g * g) = omega arith in s)
-      ∙ mul-same P (a * a) (g * g) (x * power P x (2 ^ 32 - 1)) (power P G (h + h)) (sym (power-add x (2 ^ 31) (2 ^ 31)) ∙ power-suc P x (2 ^ 32 - 1))
-      (sym (power-add G h h) ∙ sym (power-mod P G (h + h)))
-      ∙ times-one P x (power P x (2 ^ 32 - 1)) (power P G (h + h)) one
+  root-squares r e = squared x h r e ∙ times-one P x (power P x (2 ^ 32 - 1)) (power P G (h + h)) one
 
 -- the root is canonical
 root-below : (x : ℕ) → rootWord x < P
 unfolding rootWord
 root-below x = by-eq (λ (n : ℕ). n < P) (x % P) 0 (λ _. lit< tt) (λ _. omega arith)
 
-root-stands : (x : ℕ) → Stands (rootWord x) (rootWord x)
+pub root-stands : (x : ℕ) → Stands (rootWord x) (rootWord x)
 root-stands x = record { below = omega (arith, root-below x); element = mod-eq-of-lt (root-below x) }
 
 -- ---- what is promised of an answer

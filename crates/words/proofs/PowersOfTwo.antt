@@ -23,7 +23,7 @@ two-period = power-is 2 192 ∙ two-192
 half-period : power P half 192 ≡ 1
 half-period = power-is half 192
 
-halves-undo : (e : ℕ) → power P 2 e * power P half e % P ≡ 1
+pub halves-undo : (e : ℕ) → power P 2 e * power P half e % P ≡ 1
 halves-undo e = sym (power-base 2 half e) ∙ power-same P (2 * half) 1 e refl ∙ power-of-one P e
 
 -- so what times 2^e is x, is x times the e-th power of a half

@@ -12,7 +12,7 @@ use borrow.Author.Tests.{le-leb, lt-leb, eq-eqb, ne-eqb}
 use Rattle.prime.specs.Modulus.{P}
 use Rattle.prime.proofs.Congruence.{same, add-same}
 use Rattle.words.specs.Limbs.{largest}
-use Rattle.words.specs.Words.{addWord, wideWord, mulWord}
+use Rattle.words.specs.Words.{Words, addWord, wideWord, mulWord}
 use Rattle.words.specs.Sums.{limit, total, sumWord, products, lowSum, highSum, foldedSum, offset, lessOffset, dotProducts, dotWord, dotRefusal}
 use Rattle.words.specs.declared.answers.Refusal.the-variants.{LengthsDiffer, TooMany}
 use Rattle.words.specs.declared.answers.Answer.the-variants.{Word, Refused}
@@ -20,7 +20,7 @@ use Rattle.words.specs.Promises.{Summed, Dotted}
 use Rattle.words.proofs.Choice.{by-lt}
 use Rattle.words.proofs.Stands.{Stands, itself, to, granted, refused}
 use Rattle.words.proofs.Laws.{add-stands, wide-stands}
-use Rattle.words.proofs.Totals.{Slice, Words, Products, each-word, total-fits, each-product, products-length, low-fits, high-fits}
+use Rattle.words.proofs.Totals.{Slice, Products, each-word, total-fits, each-product, products-length, low-fits, high-fits}
 
 -- ---- a list by its first k entries
 

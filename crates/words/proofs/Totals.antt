@@ -14,16 +14,14 @@ use mir.Val.{Fits}
 use Rattle.prime.specs.Modulus.{P}
 use Rattle.prime.specs.Lists.{Each}
 use Rattle.words.specs.Limbs.{limbs, largest}
+use Rattle.words.specs.Words.{Words}
 use Rattle.words.specs.Sums.{limit, total, products, lowSum, highSum}
 use Rattle.words.proofs.Products.{product-below, product-most}
 use Rattle.words.proofs.Carries.{limbs-word}
 
--- what is known of a slice of words, by place and entry by entry
+-- what is known of a slice of words, by place; so entry by entry
 abbrev pub Slice : List ℕ → Type 0
 Slice ws = (i : ℕ) → Fits w64 (getD ws i 0)
-
-abbrev pub Words : List ℕ → Type 0
-Words ws = Each (λ (w : ℕ). w < 2 ^ 64) ws
 
 pub each-word : (ws : List ℕ) → Slice ws → Words ws
 each-word [] h = tt

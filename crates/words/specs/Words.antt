@@ -1,9 +1,15 @@
 -- 01, "Held words, rule by rule": the word that each operation answers, over ℕ, by tests and natural subtraction.
 use mathlib.Core.Bool.{Bool, cond}
-use Prim.Native.Nat.{ℕ, _+_, _-_, _*_, _/_, _%_, _^_}
+use mathlib.Core.List.{List}
+use Prim.Native.Nat.{ℕ, _+_, _-_, _*_, _/_, _%_, _^_, _<_}
 use lib.Dec.{eqb, leb, ltb}
 use lib.IntN.{ℤ, pos, negsuc}
 use Rattle.prime.specs.Modulus.{P}
+use Rattle.prime.specs.Lists.{Each}
+
+-- Each entry is a word, "any u64".
+abbrev pub Words : List ℕ → Type 0
+Words ws = Each (λ (w : ℕ). w < 2 ^ 64) ws
 
 -- 01: "its canonical form is x if x < P, else x - P".
 unfoldable pub canonical : ℕ → ℕ

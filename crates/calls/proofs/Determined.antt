@@ -1,0 +1,185 @@
+-- 01, "What the contracts must leave no room for": no second answer fits the contract of any public operation. `X.Learnt` is the contract of the function
+-- X as the kit hands it to X's callers, so what stands here is said of the functions' own `ensures`.
+use mathlib.Core.Path.{_≡_, refl, sym, ap₂, _∙_}
+use mathlib.Core.Bool.{Bool, cond}
+use mathlib.Core.List.{List, [], _∷_}
+use Prim.Native.Nat.{ℕ, zero, suc}
+use lib.ListN.{getD}
+use denote.Ref.{now}
+use Rattle.words.specs.declared.answers.Refusal.{Refusal}
+use Rattle.words.specs.declared.answers.Refusal.the-variants.{OutOfRange, InverseOfZero, NoSquareRoot, LengthsDiffer, TooMany, WrongBuffer, Above32, Unreadable}
+use Rattle.words.specs.declared.answers.Answer.{Answer}
+use Rattle.words.specs.declared.answers.Answer.the-variants.{Word, Refused}
+use Rattle.words.specs.Answers.{number, refusalOf, wordOf}
+use Rattle.words.specs.Promises.{Answered}
+use Rattle.wire.specs.declared.answers.Coded.{Coded}
+use Rattle.wire.specs.declared.answers.Coded.the-variants.{Done, Refused as RefusedAt}
+use Rattle.wire.specs.Answers.{refusalOf as codedRefusal, indexOf}
+use Rattle.goldilocks.proofs.add.Reads as add
+use Rattle.goldilocks.proofs.sub.Reads as sub
+use Rattle.goldilocks.proofs.neg.Reads as neg
+use Rattle.goldilocks.proofs.reduce128.Reads as reduce128
+use Rattle.goldilocks.proofs.mul.Reads as mul
+use Rattle.goldilocks.proofs.square.Reads as square
+use Rattle.goldilocks.proofs.halve.Reads as halve
+use Rattle.goldilocks.proofs.sum_array.Reads as sum-array
+use Rattle.goldilocks.proofs.dot_product.Reads as dot-product
+use Rattle.goldilocks.proofs.from_i64.Reads as from-i64
+use Rattle.goldilocks.proofs.from_u128.Reads as from-u128
+use Rattle.goldilocks.proofs.mul_2exp_u64.Reads as mul-2exp-u64
+use Rattle.goldilocks.proofs.div_2exp_u64.Reads as div-2exp-u64
+use Rattle.goldilocks.proofs.try_inverse.Reads as try-inverse
+use Rattle.goldilocks.proofs.try_sqrt.Reads as try-sqrt
+use Rattle.goldilocks.proofs.injective_exp_root_n.Reads as injective-exp-root-n
+use Rattle.goldilocks.proofs.two_adic_generator.Reads as two-adic-generator
+use Rattle.goldilocks.proofs.eq.Reads as eq
+use Rattle.goldilocks.proofs.cmp.Reads as cmp
+use Rattle.goldilocks.proofs.is_zero.Reads as is-zero
+use Rattle.goldilocks.proofs.slot.Reads as slot
+use Rattle.goldilocks.proofs.encode.Reads as encode
+use Rattle.goldilocks.proofs.decode.Reads as decode
+use Rattle.goldilocks.proofs.as_canonical_u64.Reads as as-canonical-u64
+use Rattle.goldilocks.proofs.from_canonical_checked_u64.Reads as from-canonical-checked-u64
+use Rattle.goldilocks.proofs.from_canonical_checked_i64.Reads as from-canonical-checked-i64
+use Rattle.goldilocks.proofs.value.Reads as value
+use Rattle.words.proofs.answers.Refusal.number.Reads as refusal-number
+use Rattle.calls.specs.Determined.{Fixes, Determined}
+
+-- ---- an answer is told by the numbers that the promises speak of
+
+refusals : List Refusal
+refusals = OutOfRange ∷ InverseOfZero ∷ NoSquareRoot ∷ LengthsDiffer ∷ TooMany ∷ WrongBuffer ∷ Above32 ∷ Unreadable ∷ []
+
+-- z for no refusal, f of the refusal of each number
+numbered : {A : Type 0} → A → (Refusal → A) → ℕ → A
+unfolding refusals
+numbered z f zero = z
+numbered z f (suc n) = f (getD refusals n OutOfRange)
+
+numbered-is : {A : Type 0} (z : A) (f : Refusal → A) (r : Refusal) → f r ≡ numbered z f (number r)
+unfolding refusals numbered
+numbered-is z f OutOfRange = refl
+numbered-is z f InverseOfZero = refl
+numbered-is z f NoSquareRoot = refl
+numbered-is z f LengthsDiffer = refl
+numbered-is z f TooMany = refl
+numbered-is z f WrongBuffer = refl
+numbered-is z f Above32 = refl
+numbered-is z f Unreadable = refl
+
+told : ℕ → ℕ → Answer
+told n w = numbered (Word w) Refused n
+
+told-is : (r : Answer) → r ≡ told (refusalOf r) (wordOf r)
+unfolding told numbered
+told-is (Word w) = refl
+told-is (Refused r) = numbered-is (Word 0) Refused r
+
+answer : {t : Bool} {n w e : ℕ} {r : Answer} → Answered t n w e r → r ≡ told (cond t 0 n) (cond t w 0)
+answer {r = r} h = told-is r ∙ ap₂ told (h .refusal) (h .word)
+
+coded : ℕ → ℕ → Coded
+coded n i = numbered Done (λ r. RefusedAt r i) n
+
+coded-is : (r : Coded) → r ≡ coded (codedRefusal r) (indexOf r)
+unfolding coded numbered
+coded-is Done = refl
+coded-is (RefusedAt r i) = numbered-is Done (λ r. RefusedAt r i) r
+
+-- ---- so where a contract says what is seen by its arguments alone, there is no second
+
+module _ {K : Type 0} {A R S B : K → Type 0} {C : (k : K) → A k → R k → S k → Type 0} {see : (k : K) → R k → S k → B k} where
+  fixed : {v : (k : K) → A k → B k} → ((k : K) (a : A k) (r : R k) (s : S k) → C k a r s → see k r s ≡ v k a) → Fixes see C
+  fixed f k a r q s t h i = f k a r s h ∙ sym (f k a q t i)
+
+pub add-determined : Determined add.Learnt
+add-determined = fixed (λ k a r s h. h .word)
+
+pub sub-determined : Determined sub.Learnt
+sub-determined = fixed (λ k a r s h. h .word)
+
+pub neg-determined : Determined neg.Learnt
+neg-determined = fixed (λ k a r s h. h .word)
+
+pub reduce128-determined : Determined reduce128.Learnt
+reduce128-determined = fixed (λ k a r s h. h .word)
+
+pub mul-determined : Determined mul.Learnt
+mul-determined = fixed (λ k a r s h. h .word)
+
+pub square-determined : Determined square.Learnt
+square-determined = fixed (λ k a r s h. h .word)
+
+pub halve-determined : Determined halve.Learnt
+halve-determined = fixed (λ k a r s h. h .word)
+
+pub sum-array-determined : Determined sum-array.Learnt
+sum-array-determined = fixed (λ k a r s h. answer h)
+
+pub dot-product-determined : Determined dot-product.Learnt
+dot-product-determined = fixed (λ k a r s h. answer h)
+
+pub from-i64-determined : Determined from-i64.Learnt
+from-i64-determined = fixed (λ k a r s h. h .word)
+
+pub from-u128-determined : Determined from-u128.Learnt
+from-u128-determined = fixed (λ k a r s h. h .word)
+
+pub mul-2exp-u64-determined : Determined mul-2exp-u64.Learnt
+mul-2exp-u64-determined = fixed (λ k a r s h. h .word)
+
+pub div-2exp-u64-determined : Determined div-2exp-u64.Learnt
+div-2exp-u64-determined = fixed (λ k a r s h. h .word)
+
+pub try-inverse-determined : Determined try-inverse.Learnt
+try-inverse-determined = fixed (λ k a r s h. answer (h .answered))
+
+pub try-sqrt-determined : Determined try-sqrt.Learnt
+try-sqrt-determined = fixed (λ k a r s h. answer (h .answered))
+
+pub injective-exp-root-n-determined : Determined injective-exp-root-n.Learnt
+injective-exp-root-n-determined = fixed (λ k a r s h. h .held .word)
+
+pub two-adic-generator-determined : Determined two-adic-generator.Learnt
+two-adic-generator-determined = fixed (λ k a r s h. answer h)
+
+pub eq-determined : Determined eq.Learnt
+eq-determined = fixed (λ k a r s h. h .canonical)
+
+pub cmp-determined : Determined cmp.Learnt
+cmp-determined = fixed (λ k a r s h. h .canonical)
+
+pub is-zero-determined : Determined is-zero.Learnt
+is-zero-determined = fixed (λ k a r s h. h .canonical)
+
+pub slot-determined : Determined slot.Learnt
+slot-determined = fixed (λ k a r s h. answer h)
+
+pub encode-determined : Determined encode.Learnt
+encode-determined = fixed (λ k a r s h. coded-is r ∙ ap₂ coded (h .refusal) (h .index))
+
+-- and the lent buffer at exit
+pub encode-buffer : Fixes (λ k r s. now (s .1 .0)) encode.Learnt
+encode-buffer = fixed (λ k a r s h. h .bytes)
+
+pub decode-determined : Determined decode.Learnt
+decode-determined = fixed (λ k a r s h. coded-is r ∙ ap₂ coded (h .refusal) (h .index))
+
+pub decode-buffer : Fixes (λ k r s. now (s .1 .0)) decode.Learnt
+decode-buffer = fixed (λ k a r s h. h .words)
+
+pub as-canonical-u64-determined : Determined as-canonical-u64.Learnt
+as-canonical-u64-determined = fixed (λ k a r s h. h .word)
+
+pub from-canonical-checked-u64-determined : Determined from-canonical-checked-u64.Learnt
+from-canonical-checked-u64-determined = fixed (λ k a r s h. answer h)
+
+pub from-canonical-checked-i64-determined : Determined from-canonical-checked-i64.Learnt
+from-canonical-checked-i64-determined = fixed (λ k a r s h. answer h)
+
+pub value-determined : Determined value.Learnt
+value-determined = fixed (λ k a r s h. h .word)
+
+-- the number of a refusal
+pub number-determined : Determined refusal-number.Learnt
+number-determined = fixed (λ k a r s h. h)

@@ -1,0 +1,30 @@
+-- Demand 3, of document 01's operations. The one hypothesis is that starting words are below 2^64.
+use mathlib.Core.Path.{_≡_, sym, ap, _∙_}
+use mathlib.Core.List.{List, [], map}
+use Prim.Native.Nat.{ℕ}
+use Rattle.words.specs.Words.{Words}
+use Rattle.sequence.specs.Outcomes.{Outcome, element, seen, shown}
+use Rattle.sequence.proofs.Theorems.{sequence, runs-alike, plays-only}
+use Rattle.calls.specs.Calls.{Call, Says}
+use Rattle.calls.specs.Operations.{operations, heldRun, wholeRun, Ran}
+use Rattle.calls.proofs.Agreement.{respectful}
+use Rattle.calls.proofs.Contracts.{held-only}
+
+-- Any calls that the functions answer by their contracts have the outcomes of the held run.
+pub as-held : (cs : List Call) (ws : List ℕ) (os : List (Outcome Says ℕ)) → Ran cs ws os → os ≡ heldRun cs ws
+as-held cs ws os = plays-only _ (operations .held) (λ c s _ o. held-only c s o) cs ws [] os
+
+module _ (cs : List Call) (ws : List ℕ) (h : Words ws) where
+  -- What is seen of the held run is what is shown of the whole-number run.
+  pub held-run : map seen (heldRun cs ws) ≡ map shown (wholeRun cs (map element ws))
+  held-run = sequence operations respectful cs ws [] h
+
+  -- What is seen of any calls that the functions answer is what is shown of the whole-number run.
+  pub functions-run : (os : List (Outcome Says ℕ)) → Ran cs ws os → map seen os ≡ map shown (wholeRun cs (map element ws))
+  functions-run os p = ap (map seen) (as-held cs ws os p) ∙ held-run
+
+  -- Run twice, from words that agree modulo P one by one, the functions are seen to answer alike.
+  pub run-twice : (vs : List ℕ) → Words vs → map element ws ≡ map element vs
+      → (os ps : List (Outcome Says ℕ)) → Ran cs ws os → Ran cs vs ps → map seen os ≡ map seen ps
+  run-twice vs k e os ps p q =
+      ap (map seen) (as-held cs ws os p) ∙ runs-alike operations respectful cs ws vs [] h k e ∙ sym (ap (map seen) (as-held cs vs ps q))

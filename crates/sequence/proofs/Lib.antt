@@ -1,0 +1,2 @@
+-- The statements.
+pub mod Theorems

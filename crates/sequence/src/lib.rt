@@ -1,0 +1,2 @@
+// Demand 3 over any family of calls: theorems only, no code.
+// The definitions are in specs/; proofs/Theorems.antt has the statements.
