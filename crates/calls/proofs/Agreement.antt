@@ -3,15 +3,13 @@ use mathlib.Core.Path.{_≡_, refl, sym, ap, ap₂, _∙_}
 use mathlib.Core.Bool.{Bool, true, false, not, cond, false≢true}
 use mathlib.Core.Logic.{_≢_}
 use mathlib.Core.List.{List, [], _∷_, map, flatMap, _++_}
-use Prim.Native.Nat.{ℕ, _+_, _-_, _*_, _%_, _^_, _<_, _≤_}
+use Prim.Native.Nat.{ℕ, _+_, _-_, _*_, _%_, _^_, _<_}
 use native.Mathlib.Nat.{mod-lt, mod-mod, mod-eq-of-lt, mod-le, add-mod, zero-add, one-mul, lt-of-le-of-lt}
 use native.Mathlib.Omega.{arith}
 use borrow.Author.Tests.{leb-true, eqb-true, eq-eqb}
 use lib.Dec.{eqb, leb, lit<}
 use lib.IntN.{ℤ, pos, negsuc}
 use lib.ListN.{length, length-map}
-use mir.Syntax.{w64}
-use mir.Val.{SFits}
 use Rattle.prime.specs.Modulus.{P, seventh}
 use Rattle.prime.specs.Powers.{power}
 use Rattle.prime.specs.Residues.{Square}
@@ -20,7 +18,7 @@ use Rattle.prime.proofs.Powers.{power-mod}
 use Rattle.prime.proofs.Theorems.{power-is, power-rest, inverse-power}
 use Rattle.words.specs.Elements.{half, residue}
 use Rattle.words.specs.Limbs.{limbs}
-use Rattle.words.specs.Words.{Words, canonical}
+use Rattle.words.specs.Words.{Words}
 use Rattle.words.specs.Sums.{limit, total, products, dotRefusal}
 use Rattle.words.specs.Orders.{order}
 use Rattle.words.proofs.Stands.{Stands, to}
@@ -36,11 +34,11 @@ use Rattle.wire.specs.Wire.{bytesOf, encoded}
 use Rattle.wire.specs.Answers.{sizes, kept}
 use Rattle.sequence.specs.Outcomes.{element}
 use Rattle.sequence.specs.Families.{Agrees, Respectful}
-use Rattle.calls.specs.Calls.{Call, add, sub, neg, reduce, mul, square, halve, sum, dot, from-i64, from-limbs, shift-up, shift-down, inverse, square-root, seventh-root, generator, equal, compare, is-zero, slot, encode, canonical-form, Says, truth, ordering, buffer, outcome, word, answered, figured, said, figure}
+use Rattle.calls.specs.Calls.{add, sub, neg, reduce, mul, square, halve, sum, dot, from-i64, from-limbs, shift-up, shift-down, inverse, square-root, seventh-root, generator, equal, compare, is-zero, slot, encode, canonical-form, Says, truth, ordering, buffer, outcome, word, answered, figured, said, figure}
 use Rattle.calls.specs.WholeNumbers.{minus, over, signed, hasRoot, rootOf, seventhRootOf}
 use Rattle.calls.proofs.FirstRoot.{root-first}
 use Rattle.calls.specs.Operations.{operations}
-use Rattle.calls.proofs.WholeNumbers.{solve-is, difference, quotient, halved, shifted, seventh-rooted}
+use Rattle.calls.proofs.Solutions.{solve-is, difference, quotient, halved, shifted, seventh-rooted}
 
 -- ---- outcomes of each form agree
 
@@ -65,30 +63,33 @@ none e = record { below = tt; same = ap said e }
 
 -- ---- from an operation's element to the whole number
 
--- a remainder is itself below P
+-- a number and its remainder, which is below P, are the same modulo P
+reduced : (x : ℕ) → x % P ≡ x % P % P
+reduced x = sym (mod-mod x P)
+
 below-P : (x : ℕ) → x % P < P
 below-P x = mod-lt x (lit< tt)
 
 module _ (x y : ℕ) where
   difference-is : (x + (P - 1) * y) % P ≡ minus (x % P) (y % P)
   difference-is =
-      add-same P x ((P - 1) * y) (x % P) ((P - 1) * (y % P)) (sym (mod-mod x P)) (mul-same-right P (P - 1) y (y % P) (sym (mod-mod y P)))
+      add-same P x ((P - 1) * y) (x % P) ((P - 1) * (y % P)) (reduced x) (mul-same-right P (P - 1) y (y % P) (reduced y))
       ∙ sym (solve-is (difference (x % P) (y % P) (below-P x)))
 
   limbs-is : limbs x y % P ≡ (x % P + 2 ^ 64 * (y % P)) % P
   unfolding limbs
-  limbs-is = add-same P x (2 ^ 64 * y) (x % P) (2 ^ 64 * (y % P)) (sym (mod-mod x P)) (mul-same-right P (2 ^ 64) y (y % P) (sym (mod-mod y P)))
+  limbs-is = add-same P x (2 ^ 64 * y) (x % P) (2 ^ 64 * (y % P)) (reduced x) (mul-same-right P (2 ^ 64) y (y % P) (reduced y))
 
   -- a factor may be taken modulo P
   factor-is : x * y % P ≡ x % P * y % P
-  factor-is = mul-same-left P x (x % P) y (sym (mod-mod x P))
+  factor-is = mul-same-left P x (x % P) y (reduced x)
 
 module _ (x : ℕ) where
   half-is : x * half % P ≡ over (x % P) 2
   half-is = factor-is x half ∙ sym (solve-is (halved (x % P) (below-P x)))
 
   up-is : (k : ℕ) → x * power P 2 k % P ≡ x % P * 2 ^ k % P
-  up-is k = ap (λ (p : ℕ). x * p % P) (power-is 2 k) ∙ mul-same P x (2 ^ k % P) (x % P) (2 ^ k) (sym (mod-mod x P)) (mod-mod (2 ^ k) P)
+  up-is k = ap (λ (p : ℕ). x * p % P) (power-is 2 k) ∙ mul-same P x (2 ^ k % P) (x % P) (2 ^ k) (reduced x) (mod-mod (2 ^ k) P)
 
   down-is : (k : ℕ) → x * power P half k % P ≡ over (x % P) (2 ^ k)
   down-is k = factor-is x (power P half k) ∙ sym (solve-is (shifted (x % P) (below-P x) k))
@@ -108,6 +109,7 @@ module _ (x : ℕ) where
   root-is : Square P x → rootWord x ≡ rootOf (x % P)
   root-is q = rw (power-rest x (2 ^ 31)) (root-first x q)
 
+-- a negative, where -1 is P - 1
 opposite-is : (y : ℕ) → (P - 1) * y % P ≡ minus 0 y
 opposite-is y = ap (λ (n : ℕ). n % P) (sym (zero-add ((P - 1) * y))) ∙ sym (solve-is (difference 0 y (lit< tt)))
 
@@ -115,10 +117,11 @@ signed-is : (z : ℤ) → residue z ≡ signed z
 signed-is (pos n) = refl
 signed-is (negsuc n) = opposite-is (n + 1)
 
+-- sums of elements
 total-is : (s : ℕ → ℕ) (is : List ℕ) → total (map s is) % P ≡ total (map (λ i. s i % P) is) % P
 unfolding total
 total-is s [] = refl
-total-is s (i ∷ is) = add-same P (s i) (total (map s is)) (s i % P) (total (map (λ i. s i % P) is)) (sym (mod-mod (s i) P)) (total-is s is)
+total-is s (i ∷ is) = add-same P (s i) (total (map s is)) (s i % P) (total (map (λ i. s i % P) is)) (reduced (s i)) (total-is s is)
 
 -- products of elements, pair by pair
 products-is : (s : ℕ → ℕ) (is js : List ℕ)
@@ -129,8 +132,9 @@ products-is s [] (j ∷ js) = refl
 products-is s (i ∷ is) [] = refl
 products-is s (i ∷ is) (j ∷ js) =
     add-same P (s i * s j) (total (products (map s is) (map s js))) (s i % P * (s j % P)) (total (products (map (λ i. s i % P) is) (map (λ i. s i % P) js)))
-    (mul-same P (s i) (s j) (s i % P) (s j % P) (sym (mod-mod (s i) P)) (sym (mod-mod (s j) P))) (products-is s is js)
+    (mul-same P (s i) (s j) (s i % P) (s j % P) (reduced (s i)) (reduced (s j))) (products-is s is js)
 
+-- words as bytes
 encoded-is : (s : ℕ → ℕ) (is : List ℕ) → encoded (map s is) ≡ flatMap (bytesOf 8) (map (λ i. s i % P) is)
 unfolding encoded flatMap
 encoded-is s [] = refl
@@ -150,7 +154,7 @@ paired false u e = absurd (false≢true e)
 pub respectful : Respectful operations
 respectful (add i j) s n h = a-word (add-stands (s i) (s j) (h i) (h j)) (add-mod (s i) (s j) P)
 respectful (sub i j) s n h = a-word (sub-stands (s i) (s j) (h i) (h j)) (difference-is (s i) (s j))
-respectful (neg i) s n h = a-word (neg-stands (s i) (h i)) (mul-same-right P (P - 1) (s i) (s i % P) (sym (mod-mod (s i) P)) ∙ opposite-is (s i % P))
+respectful (neg i) s n h = a-word (neg-stands (s i) (h i)) (mul-same-right P (P - 1) (s i) (s i % P) (reduced (s i)) ∙ opposite-is (s i % P))
 respectful (reduce lo hi) s n h = a-word (reduce-stands (s lo) (s hi) (h lo) (h hi)) (limbs-is (s lo) (s hi))
 respectful (mul i j) s n h = a-word (mul-stands (s i) (s j) (h i) (h j)) (mul-mod P (s i) (s j))
 respectful (square i) s n h = a-word (mul-stands (s i) (s i) (h i) (h i)) (mul-mod P (s i) (s i))

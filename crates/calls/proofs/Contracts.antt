@@ -1,15 +1,14 @@
 -- The contracts of the functions allow no outcome but the held one.
-use mathlib.Core.Path.{_≡_, refl, ap, ap₂, subst, _∙_}
-use mathlib.Core.Bool.{Bool, true, not, cond}
-use mathlib.Core.List.{List, [], _∷_, map}
-use Prim.Native.Nat.{ℕ, _%_, _^_}
-use lib.Dec.{eqb, leb}
+use mathlib.Core.Path.{_≡_, ap, ap₂, _∙_}
+use mathlib.Core.Bool.{Bool, true}
+use mathlib.Core.List.{List, [], _∷_}
+use Prim.Native.Nat.{ℕ}
+use lib.Dec.{eqb}
 use lib.ListN.{length}
 use Rattle.words.specs.Words.{canonical, addWord, subWord, negWord, reduceWord, mulWord, halveWord, fromI64Word, fromU128Word, shiftUpWord, shiftDownWord}
 use Rattle.words.specs.Orders.{order}
 use Rattle.words.specs.declared.canonical.Ordering.{Ordering}
 use Rattle.words.specs.declared.answers.Answer.{Answer}
-use Rattle.words.specs.Answers.{refusalOf, wordOf}
 use Rattle.words.specs.Promises.{Answered}
 use Rattle.roots.specs.Roots.{seventhWord}
 use Rattle.wire.specs.declared.answers.Coded.{Coded}

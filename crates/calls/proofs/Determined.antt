@@ -1,5 +1,6 @@
--- 01, "What the contracts must leave no room for": no second answer fits the contract of any public operation. `X.Learnt` is the contract of the function
--- X as the kit hands it to X's callers, so what stands here is said of the functions' own `ensures`.
+-- 01, "What the contracts must leave no room for": no public operation asks anything of its caller, and no second answer fits its contract, in the order
+-- of `goldilocks`. `X.Asked` and `X.Learnt` are the contract of the function X as the kit hands it to X's callers, so what stands here is said of the
+-- functions' own `requires` and `ensures`.
 use mathlib.Core.Path.{_≡_, refl, sym, ap₂, _∙_}
 use mathlib.Core.Bool.{Bool, cond}
 use mathlib.Core.List.{List, [], _∷_}
@@ -10,7 +11,7 @@ use Rattle.words.specs.declared.answers.Refusal.{Refusal}
 use Rattle.words.specs.declared.answers.Refusal.the-variants.{OutOfRange, InverseOfZero, NoSquareRoot, LengthsDiffer, TooMany, WrongBuffer, Above32, Unreadable}
 use Rattle.words.specs.declared.answers.Answer.{Answer}
 use Rattle.words.specs.declared.answers.Answer.the-variants.{Word, Refused}
-use Rattle.words.specs.Answers.{number, refusalOf, wordOf}
+use Rattle.words.specs.Answers.{number as numberOf, refusalOf, wordOf}
 use Rattle.words.specs.Promises.{Answered}
 use Rattle.wire.specs.declared.answers.Coded.{Coded}
 use Rattle.wire.specs.declared.answers.Coded.the-variants.{Done, Refused as RefusedAt}
@@ -42,7 +43,7 @@ use Rattle.goldilocks.proofs.as_canonical_u64.Reads as as-canonical-u64
 use Rattle.goldilocks.proofs.from_canonical_checked_u64.Reads as from-canonical-checked-u64
 use Rattle.goldilocks.proofs.from_canonical_checked_i64.Reads as from-canonical-checked-i64
 use Rattle.goldilocks.proofs.value.Reads as value
-use Rattle.words.proofs.answers.Refusal.number.Reads as refusal-number
+use Rattle.words.proofs.answers.Refusal.number.Reads as number
 use Rattle.calls.specs.Determined.{Fixes, Determined}
 
 -- ---- an answer is told by the numbers that the promises speak of
@@ -56,7 +57,7 @@ unfolding refusals
 numbered z f zero = z
 numbered z f (suc n) = f (getD refusals n OutOfRange)
 
-numbered-is : {A : Type 0} (z : A) (f : Refusal → A) (r : Refusal) → f r ≡ numbered z f (number r)
+numbered-is : {A : Type 0} (z : A) (f : Refusal → A) (r : Refusal) → f r ≡ numbered z f (numberOf r)
 unfolding refusals numbered
 numbered-is z f OutOfRange = refl
 numbered-is z f InverseOfZero = refl
@@ -86,100 +87,100 @@ unfolding coded numbered
 coded-is Done = refl
 coded-is (RefusedAt r i) = numbered-is Done (λ r. RefusedAt r i) r
 
--- ---- so where a contract says what is seen by its arguments alone, there is no second
+-- ---- so where a contract says what is seen by the arguments alone, there is no second
 
-module _ {K : Type 0} {A R S B : K → Type 0} {C : (k : K) → A k → R k → S k → Type 0} {see : (k : K) → R k → S k → B k} where
-  fixed : {v : (k : K) → A k → B k} → ((k : K) (a : A k) (r : R k) (s : S k) → C k a r s → see k r s ≡ v k a) → Fixes see C
+module _ {K : Type 0} {A R S B : K → Type 0} {Tells : (k : K) → A k → R k → S k → Type 0} {see : (k : K) → R k → S k → B k} where
+  fixed : {v : (k : K) → A k → B k} → ((k : K) (a : A k) (r : R k) (s : S k) → Tells k a r s → see k r s ≡ v k a) → Fixes see Tells
   fixed f k a r q s t h i = f k a r s h ∙ sym (f k a q t i)
 
-pub add-determined : Determined add.Learnt
-add-determined = fixed (λ k a r s h. h .word)
+pub add-determined : Determined add.Asked add.Learnt
+add-determined = record { free = λ k a. tt; answer = fixed (λ k a r s h. h .word) }
 
-pub sub-determined : Determined sub.Learnt
-sub-determined = fixed (λ k a r s h. h .word)
+pub sub-determined : Determined sub.Asked sub.Learnt
+sub-determined = record { free = λ k a. tt; answer = fixed (λ k a r s h. h .word) }
 
-pub neg-determined : Determined neg.Learnt
-neg-determined = fixed (λ k a r s h. h .word)
+pub neg-determined : Determined neg.Asked neg.Learnt
+neg-determined = record { free = λ k a. tt; answer = fixed (λ k a r s h. h .word) }
 
-pub reduce128-determined : Determined reduce128.Learnt
-reduce128-determined = fixed (λ k a r s h. h .word)
+pub reduce128-determined : Determined reduce128.Asked reduce128.Learnt
+reduce128-determined = record { free = λ k a. tt; answer = fixed (λ k a r s h. h .word) }
 
-pub mul-determined : Determined mul.Learnt
-mul-determined = fixed (λ k a r s h. h .word)
+pub mul-determined : Determined mul.Asked mul.Learnt
+mul-determined = record { free = λ k a. tt; answer = fixed (λ k a r s h. h .word) }
 
-pub square-determined : Determined square.Learnt
-square-determined = fixed (λ k a r s h. h .word)
+pub square-determined : Determined square.Asked square.Learnt
+square-determined = record { free = λ k a. tt; answer = fixed (λ k a r s h. h .word) }
 
-pub halve-determined : Determined halve.Learnt
-halve-determined = fixed (λ k a r s h. h .word)
+pub halve-determined : Determined halve.Asked halve.Learnt
+halve-determined = record { free = λ k a. tt; answer = fixed (λ k a r s h. h .word) }
 
-pub sum-array-determined : Determined sum-array.Learnt
-sum-array-determined = fixed (λ k a r s h. answer h)
+pub sum-array-determined : Determined sum-array.Asked sum-array.Learnt
+sum-array-determined = record { free = λ k a. tt; answer = fixed (λ k a r s h. answer h) }
 
-pub dot-product-determined : Determined dot-product.Learnt
-dot-product-determined = fixed (λ k a r s h. answer h)
+pub dot-product-determined : Determined dot-product.Asked dot-product.Learnt
+dot-product-determined = record { free = λ k a. tt; answer = fixed (λ k a r s h. answer h) }
 
-pub from-i64-determined : Determined from-i64.Learnt
-from-i64-determined = fixed (λ k a r s h. h .word)
+pub from-i64-determined : Determined from-i64.Asked from-i64.Learnt
+from-i64-determined = record { free = λ k a. tt; answer = fixed (λ k a r s h. h .word) }
 
-pub from-u128-determined : Determined from-u128.Learnt
-from-u128-determined = fixed (λ k a r s h. h .word)
+pub from-u128-determined : Determined from-u128.Asked from-u128.Learnt
+from-u128-determined = record { free = λ k a. tt; answer = fixed (λ k a r s h. h .word) }
 
-pub mul-2exp-u64-determined : Determined mul-2exp-u64.Learnt
-mul-2exp-u64-determined = fixed (λ k a r s h. h .word)
+pub mul-2exp-u64-determined : Determined mul-2exp-u64.Asked mul-2exp-u64.Learnt
+mul-2exp-u64-determined = record { free = λ k a. tt; answer = fixed (λ k a r s h. h .word) }
 
-pub div-2exp-u64-determined : Determined div-2exp-u64.Learnt
-div-2exp-u64-determined = fixed (λ k a r s h. h .word)
+pub div-2exp-u64-determined : Determined div-2exp-u64.Asked div-2exp-u64.Learnt
+div-2exp-u64-determined = record { free = λ k a. tt; answer = fixed (λ k a r s h. h .word) }
 
-pub try-inverse-determined : Determined try-inverse.Learnt
-try-inverse-determined = fixed (λ k a r s h. answer (h .answered))
+pub try-inverse-determined : Determined try-inverse.Asked try-inverse.Learnt
+try-inverse-determined = record { free = λ k a. tt; answer = fixed (λ k a r s h. answer (h .answered)) }
 
-pub try-sqrt-determined : Determined try-sqrt.Learnt
-try-sqrt-determined = fixed (λ k a r s h. answer (h .answered))
+pub try-sqrt-determined : Determined try-sqrt.Asked try-sqrt.Learnt
+try-sqrt-determined = record { free = λ k a. tt; answer = fixed (λ k a r s h. answer (h .answered)) }
 
-pub injective-exp-root-n-determined : Determined injective-exp-root-n.Learnt
-injective-exp-root-n-determined = fixed (λ k a r s h. h .held .word)
+pub injective-exp-root-n-determined : Determined injective-exp-root-n.Asked injective-exp-root-n.Learnt
+injective-exp-root-n-determined = record { free = λ k a. tt; answer = fixed (λ k a r s h. h .held .word) }
 
-pub two-adic-generator-determined : Determined two-adic-generator.Learnt
-two-adic-generator-determined = fixed (λ k a r s h. answer h)
+pub two-adic-generator-determined : Determined two-adic-generator.Asked two-adic-generator.Learnt
+two-adic-generator-determined = record { free = λ k a. tt; answer = fixed (λ k a r s h. answer h) }
 
-pub eq-determined : Determined eq.Learnt
-eq-determined = fixed (λ k a r s h. h .canonical)
+pub eq-determined : Determined eq.Asked eq.Learnt
+eq-determined = record { free = λ k a. tt; answer = fixed (λ k a r s h. h .canonical) }
 
-pub cmp-determined : Determined cmp.Learnt
-cmp-determined = fixed (λ k a r s h. h .canonical)
+pub cmp-determined : Determined cmp.Asked cmp.Learnt
+cmp-determined = record { free = λ k a. tt; answer = fixed (λ k a r s h. h .canonical) }
 
-pub is-zero-determined : Determined is-zero.Learnt
-is-zero-determined = fixed (λ k a r s h. h .canonical)
+pub is-zero-determined : Determined is-zero.Asked is-zero.Learnt
+is-zero-determined = record { free = λ k a. tt; answer = fixed (λ k a r s h. h .canonical) }
 
-pub slot-determined : Determined slot.Learnt
-slot-determined = fixed (λ k a r s h. answer h)
+pub slot-determined : Determined slot.Asked slot.Learnt
+slot-determined = record { free = λ k a. tt; answer = fixed (λ k a r s h. answer h) }
 
-pub encode-determined : Determined encode.Learnt
-encode-determined = fixed (λ k a r s h. coded-is r ∙ ap₂ coded (h .refusal) (h .index))
+pub encode-determined : Determined encode.Asked encode.Learnt
+encode-determined = record { free = λ k a. tt; answer = fixed (λ k a r s h. coded-is r ∙ ap₂ coded (h .refusal) (h .index)) }
 
 -- and the lent buffer at exit
 pub encode-buffer : Fixes (λ k r s. now (s .1 .0)) encode.Learnt
 encode-buffer = fixed (λ k a r s h. h .bytes)
 
-pub decode-determined : Determined decode.Learnt
-decode-determined = fixed (λ k a r s h. coded-is r ∙ ap₂ coded (h .refusal) (h .index))
+pub decode-determined : Determined decode.Asked decode.Learnt
+decode-determined = record { free = λ k a. tt; answer = fixed (λ k a r s h. coded-is r ∙ ap₂ coded (h .refusal) (h .index)) }
 
 pub decode-buffer : Fixes (λ k r s. now (s .1 .0)) decode.Learnt
 decode-buffer = fixed (λ k a r s h. h .words)
 
-pub as-canonical-u64-determined : Determined as-canonical-u64.Learnt
-as-canonical-u64-determined = fixed (λ k a r s h. h .word)
+pub as-canonical-u64-determined : Determined as-canonical-u64.Asked as-canonical-u64.Learnt
+as-canonical-u64-determined = record { free = λ k a. tt; answer = fixed (λ k a r s h. h .word) }
 
-pub from-canonical-checked-u64-determined : Determined from-canonical-checked-u64.Learnt
-from-canonical-checked-u64-determined = fixed (λ k a r s h. answer h)
+pub from-canonical-checked-u64-determined : Determined from-canonical-checked-u64.Asked from-canonical-checked-u64.Learnt
+from-canonical-checked-u64-determined = record { free = λ k a. tt; answer = fixed (λ k a r s h. answer h) }
 
-pub from-canonical-checked-i64-determined : Determined from-canonical-checked-i64.Learnt
-from-canonical-checked-i64-determined = fixed (λ k a r s h. answer h)
+pub from-canonical-checked-i64-determined : Determined from-canonical-checked-i64.Asked from-canonical-checked-i64.Learnt
+from-canonical-checked-i64-determined = record { free = λ k a. tt; answer = fixed (λ k a r s h. answer h) }
 
-pub value-determined : Determined value.Learnt
-value-determined = fixed (λ k a r s h. h .word)
+pub value-determined : Determined value.Asked value.Learnt
+value-determined = record { free = λ k a. tt; answer = fixed (λ k a r s h. h .word) }
 
 -- the number of a refusal
-pub number-determined : Determined refusal-number.Learnt
-number-determined = fixed (λ k a r s h. h)
+pub number-determined : Determined number.Asked number.Learnt
+number-determined = record { free = λ k a. tt; answer = fixed (λ k a r s h. h) }

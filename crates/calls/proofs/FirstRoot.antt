@@ -31,7 +31,7 @@ power-of-G y nonzero =
     (k, rw (← power-rest y n, ← e, ← power-mul generator k n, mul-comm k n, power-mul generator n k, generated))
 
 -- a square has an even exponent
-pub square-exponent : (x : ℕ) → x % P ≢ 0 → Square P x → (h : ℕ) × (h < 2 ^ 31) × (power P x (2 ^ 32 - 1) * power P G (h + h) % P ≡ 1)
+square-exponent : (x : ℕ) → x % P ≢ 0 → Square P x → (h : ℕ) × (h < 2 ^ 31) × (power P x (2 ^ 32 - 1) * power P G (h + h) % P ≡ 1)
 square-exponent x nonzero (y, e) =
     let (k, q) = power-of-G y (λ z. nonzero (sym e ∙ zero-times P y y z)) in
     let n : ℕ = 2 ^ 32 - 1 in
@@ -57,8 +57,7 @@ module _ (x : ℕ) (nonzero : x % P ≢ 0) where
       cancel x (a * g) 1 nonzero (rw (← mul-assoc x a g, mul-one x) (sym (squared x h _ (mod-mod _ P)) ∙ e))
 
   -- the h that undoes it is the only one below 2^31, so the search meets it
-  first-is : (h : ℕ) → h < 2 ^ 31 → power P x (2 ^ 32 - 1) * power P G (h + h) % P ≡ 1
-      → first x ≡ h
+  first-is : (h : ℕ) → h < 2 ^ 31 → power P x (2 ^ 32 - 1) * power P G (h + h) % P ≡ 1 → first x ≡ h
   first-is h below one =
       least-only _ (2 ^ 31) h below (eq-eqb _ _ (root-squares x h one _ (mod-mod _ P))) (λ j l t.
       let twice : j + j ≡ h + h = undone-once _ (j + j) (h + h) (omega arith) (omega arith) (undone j (eqb-true _ _ t)) one in

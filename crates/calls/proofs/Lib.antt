@@ -1,4 +1,5 @@
--- The statements are in Theorems, WholeNumbers, Determined, Placements and Example; FirstRoot, Agreement and Contracts serve them.
+-- The statements are in Theorems, WholeNumbers, Determined, Placements and Example; the rest serves their proofs.
+pub mod Solutions
 pub mod FirstRoot
 pub mod WholeNumbers
 pub mod Agreement

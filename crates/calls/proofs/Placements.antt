@@ -1,8 +1,7 @@
 -- W1 to W13 hold of the definitions. All but the roots are computed; a root is a search, so its powers are computed instead.
 use mathlib.Core.Path.{_≡_, refl, sym, ap₂, _∙_}
-use mathlib.Core.Bool.{true, false}
 use mathlib.Core.List.{map}
-use Prim.Native.Nat.{ℕ, _+_, _-_, _*_, _%_, _^_}
+use Prim.Native.Nat.{ℕ, _-_, _*_, _%_, _^_}
 use native.Mathlib.Omega.{arith}
 use lib.Dec.{lit<}
 use Rattle.prime.specs.Modulus.{P}
@@ -10,7 +9,7 @@ use Rattle.prime.specs.Powers.{power, fast}
 use Rattle.prime.proofs.Theorems.{fast-power, generator-no-square}
 use Rattle.words.specs.Words.{canonical, addWord, subWord, negWord, reduceWord, mulWord, halveWord, upWord, shiftUpWord, splitWord, downWord, shiftDownWord}
 use Rattle.words.specs.Sums.{products, dotProducts}
-use Rattle.roots.specs.Roots.{G, isSquare, rootWord}
+use Rattle.roots.specs.Roots.{G, rootWord}
 use Rattle.roots.proofs.SquareRootWord.{is-square, not-square, root-is}
 use Rattle.calls.specs.Placements.{given, placements}
 

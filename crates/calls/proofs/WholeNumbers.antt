@@ -1,98 +1,60 @@
--- What a reader would ask of the whole-number side: each number that is searched for is there, and is the only one.
-use mathlib.Core.Path.{_≡_, refl, sym, ap, subst, _∙_}
+-- What a reader would ask of the whole-number side, of numbers below P: `The f x d` is that d is below P, that f d = x, and that no other number below P
+-- is so.
+use mathlib.Core.Path.{_≡_, sym, subst, _∙_}
 use mathlib.Core.Bool.{true}
 use mathlib.Core.Logic.{_≢_, _↔_}
 use Prim.Native.Nat.{ℕ, _+_, _-_, _*_, _%_, _^_, _<_}
-use native.Mathlib.Nat.{mod-lt, mod-mod, mod-eq-of-lt, mul-comm}
-use native.Mathlib.Omega.{arith}
-use borrow.Author.Tests.{eqb-true, eq-eqb}
+use native.Mathlib.Nat.{mod-lt, mod-eq-of-lt}
 use lib.Dec.{eqb, lit<}
-use Rattle.prime.specs.Modulus.{P, seventh}
+use lib.IntN.{negsuc}
+use Rattle.prime.specs.Modulus.{P}
 use Rattle.prime.specs.Powers.{power}
 use Rattle.prime.specs.Search.{least}
-use Rattle.prime.proofs.Congruence.{same, add-same, mul-same-left, times-one}
-use Rattle.prime.proofs.Powers.{power-mod, power-below}
-use Rattle.prime.proofs.Theorems.{inverse-power, power-is, power-of-root, root-of-power}
-use Rattle.prime.proofs.Search.{least-only}
-use Rattle.words.specs.Elements.{half}
-use Rattle.words.proofs.PowersOfTwo.{halves-undo}
+use Rattle.prime.proofs.Theorems.{inverse-power}
 use Rattle.roots.specs.Roots.{isSquare}
 use Rattle.roots.proofs.SquareRootWord.{is-square}
-use Rattle.calls.specs.WholeNumbers.{solve, The, minus, over, hasRoot, candidate, rootOf, seventhRootOf}
+use Rattle.calls.specs.WholeNumbers.{The, minus, over, signed, hasRoot, candidate, rootOf, seventhRootOf}
 use Rattle.calls.proofs.FirstRoot.{first-squares}
+use Rattle.calls.proofs.Solutions.{solved, difference, quotient, halved, shifted, seventh-rooted}
 
--- the search finds the one number that there is
-pub solve-is : {f : ℕ → ℕ} {x d : ℕ} → The f x d → solve f x ≡ d
-solve-is {f} {x} {d} t = least-only _ P d (t .below) (eq-eqb (f d) x (t .solves)) (λ j h e. t .only j h (eqb-true (f j) x e))
-
-solved : {f : ℕ → ℕ} {x d : ℕ} → The f x d → The f x (solve f x)
-solved {f} {x} t = subst (The f x) (sym (solve-is t)) t
-
-module _ (x y : ℕ) (h : x < P) where
-  pub difference : The (λ d. (d + y) % P) x ((x + (P - 1) * y) % P)
-  difference = record {
-    below = mod-lt _ (lit< tt);
-    solves = add-same P ((x + (P - 1) * y) % P) y (x + (P - 1) * y) y (mod-mod _ P) refl ∙ same P _ x 0 y (omega arith) ∙ mod-eq-of-lt h;
-    only = λ j k e.
-        sym (mod-eq-of-lt k) ∙ same P j (j + y + (P - 1) * y) y 0 (omega arith)
-        ∙ add-same P (j + y) ((P - 1) * y) x ((P - 1) * y) (e ∙ sym (mod-eq-of-lt h)) refl;
-  }
-
-  pub quotient : (u : ℕ) → y * u % P ≡ 1 → The (λ d. d * y % P) x (x * u % P)
-  quotient u one = record {
-    below = mod-lt _ (lit< tt);
-    solves = mul-same-left P (x * u % P) (x * u) y (mod-mod (x * u) P) ∙ times-one P x u y (rw (mul-comm u y) one) ∙ mod-eq-of-lt h;
-    only = λ j k e. sym (mod-eq-of-lt k) ∙ sym (times-one P j y u one) ∙ mul-same-left P (j * y) x u (e ∙ sym (mod-eq-of-lt h));
-  }
-
-  -- x - y is below P, and adding y gives x back
-  pub minus-the : The (λ d. (d + y) % P) x (minus x y)
-  minus-the = solved difference
-
-  -- x / y is below P, and y times it is x
-  pub over-the : y % P ≢ 0 → The (λ d. d * y % P) x (over x y)
-  over-the n = solved (quotient (power P y (P - 2)) (inverse-power y n))
-
--- 2^k has an inverse, the power of a half
-undone : (k : ℕ) → 2 ^ k * power P half k % P ≡ 1
-undone k = mul-same-left P (2 ^ k) (power P 2 k) (power P half k) (sym (power-is 2 k) ∙ sym (power-mod P 2 k)) ∙ halves-undo k
+-- From i64: -(n + 1) and n + 1 make 0.
+pub negative-sum : (n : ℕ) → The (λ d. (d + (n + 1)) % P) 0 (signed (negsuc n))
+negative-sum n = solved (difference 0 (n + 1) (lit< tt))
 
 module _ (x : ℕ) (h : x < P) where
-  -- the half of x, twice, is x
-  pub halved : The (λ d. d * 2 % P) x (x * half % P)
-  halved = quotient x 2 h half refl
+  -- Sub: the difference and y make x.
+  pub difference-sum : (y : ℕ) → The (λ d. (d + y) % P) x (minus x y)
+  difference-sum y = solved (difference x y h)
 
-  pub half-the : The (λ d. d * 2 % P) x (over x 2)
-  half-the = solved halved
+  -- Neg: the negative and x make 0.
+  pub opposite-sum : The (λ d. (d + x) % P) 0 (minus 0 x)
+  opposite-sum = solved (difference 0 x (lit< tt))
 
-  -- x shifted down by k, times 2^k, is x
-  pub shifted : (k : ℕ) → The (λ d. d * 2 ^ k % P) x (x * power P half k % P)
-  shifted k = quotient x (2 ^ k) h (power P half k) (undone k)
+  -- Halve: twice the half is x.
+  pub half-product : The (λ d. d * 2 % P) x (over x 2)
+  half-product = solved (halved x h)
 
-  pub shift-down-the : (k : ℕ) → The (λ d. d * 2 ^ k % P) x (over x (2 ^ k))
-  shift-down-the k = solved (shifted k)
+  -- Shift down by k: times 2^k it is x.
+  pub shift-product : (k : ℕ) → The (λ d. d * 2 ^ k % P) x (over x (2 ^ k))
+  shift-product k = solved (shifted x h k)
 
-  -- the seventh root of x to the seventh is x
-  pub seventh-rooted : The (λ d. d ^ 7 % P) x (power P x seventh)
-  seventh-rooted = record {
-    below = power-below P x seventh (lit< tt);
-    solves = sym (power-is (power P x seventh) 7) ∙ power-of-root x ∙ mod-eq-of-lt h;
-    only = λ j k e. sym (mod-eq-of-lt k) ∙ sym (root-of-power j) ∙ ap (λ (n : ℕ). power P n seventh) (power-is j 7 ∙ e);
-  }
+  -- Inverse: where x is not 0, the product with x is 1.
+  pub inverse-product : x ≢ 0 → The (λ d. d * x % P) 1 (over 1 x)
+  inverse-product n = solved (quotient 1 x (lit< tt) (power P x (P - 2)) (inverse-power x (λ z. n (sym (mod-eq-of-lt h) ∙ z))))
 
-  pub seventh-root-the : The (λ d. d ^ 7 % P) x (seventhRootOf x)
-  seventh-root-the = solved seventh-rooted
-
-  -- a root is found exactly where some number squares to x
-  pub has-root : (hasRoot x ≡ true) ↔ ((y : ℕ) × (y * y % P ≡ x))
+  -- Square root: one is found exactly where some number squares to x, and then it is below P and squares to x.
+  pub root-exists : (hasRoot x ≡ true) ↔ ((y : ℕ) × (y * y % P ≡ x))
   unfolding isSquare
-  has-root = rw (mod-eq-of-lt h) at (is-square x)
+  root-exists = rw (mod-eq-of-lt h) at (is-square x)
 
-  -- it is below P, and squares to x
-  pub root-the : hasRoot x ≡ true → (rootOf x < P) × (rootOf x * rootOf x % P ≡ x)
-  root-the t =
-      let (y, e) = has-root .0 t in (
+  pub root-square : hasRoot x ≡ true → (rootOf x < P) × (rootOf x * rootOf x % P ≡ x)
+  root-square t =
+      let (y, e) = root-exists .0 t in (
         mod-lt _ (lit< tt),
         subst (λ (m : ℕ). let r : ℕ = candidate x (least (λ k. eqb (candidate x k * candidate x k % P) m) (2 ^ 31)) in r * r % P ≡ m) (mod-eq-of-lt h)
             (first-squares x (y, e ∙ sym (mod-eq-of-lt h))),
       )
+
+  -- Seventh root: its seventh power is x.
+  pub seventh-power : The (λ d. d ^ 7 % P) x (seventhRootOf x)
+  seventh-power = solved (seventh-rooted x h)

@@ -2,7 +2,7 @@
 -- lifetimes k, arguments a, answer r, and what the parameters hold at exit, t.
 use mathlib.Core.Path.{_≡_}
 use mathlib.Core.Bool.{true}
-use mathlib.Core.List.{List, [], _∷_, map}
+use mathlib.Core.List.{[], _∷_, map}
 use Prim.Native.Nat.{ℕ}
 use denote.Ref.{now}
 use Rattle.words.specs.declared.answers.Answer.{Answer}

@@ -1,7 +1,7 @@
 -- How the calls are answered in whole numbers below P, from arithmetic alone.
 use mathlib.Core.Path.{_≡_}
 use mathlib.Core.Bool.{Bool, true, not}
-use mathlib.Core.List.{List, map, flatMap}
+use mathlib.Core.List.{map, flatMap}
 use Prim.Native.Nat.{ℕ, _+_, _-_, _*_, _%_, _^_, _<_}
 use lib.Dec.{eqb, leb, ltb}
 use lib.IntN.{ℤ, pos, negsuc}

@@ -1,7 +1,6 @@
 -- Families of calls.
 use mathlib.Core.Path.{_≡_}
 use mathlib.Core.Logic.{_⊎_, inl, inr}
-use mathlib.Core.List.{List}
 use Prim.Native.Nat.{ℕ, _^_, _<_}
 use Rattle.words.specs.Words.{Words}
 use Rattle.sequence.specs.Outcomes.{Outcome, element, elements}
