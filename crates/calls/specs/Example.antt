@@ -1,6 +1,6 @@
 -- A sequence of calls, written out.
 use mathlib.Core.Bool.{true}
-use mathlib.Core.List.{List, [], _∷_}
+use mathlib.Core.List.{List, [], _∷_, _++_}
 use Prim.Native.Nat.{ℕ, _+_, _-_}
 use lib.ListN.{replicate}
 use Rattle.prime.specs.Modulus.{P}
@@ -15,7 +15,11 @@ start = 0 ∷ (P - 1) ∷ []
 abbrev pub calls : List Call
 calls = neg 0 ∷ mul 1 1 ∷ inverse 2 ∷ equal 0 2 ∷ slot 3 8 ∷ encode (2 ∷ 3 ∷ 4 ∷ []) (replicate 24 0xAA) ∷ encode (2 ∷ []) (0xAA ∷ []) ∷ []
 
--- P, P + 1 for a one, a refusal that leaves 0; and what is seen of them is by the elements 0, 1 and 0.
+-- The 8 bytes of a number below 256.
+abbrev bytes : ℕ → List ℕ
+bytes b = b ∷ replicate 7 0
+
+-- P, P + 1 for a one, and a refusal that leaves 0.
 abbrev pub outcomes : List (Outcome Says ℕ)
 outcomes =
     word P
@@ -23,6 +27,10 @@ outcomes =
     ∷ outcome (refusal 2) (0 ∷ [])
     ∷ said (truth true)
     ∷ outcome (figure 0 1) (1 ∷ [])
-    ∷ said (buffer 0 0 (0 ∷ 0 ∷ 0 ∷ 0 ∷ 0 ∷ 0 ∷ 0 ∷ 0 ∷ 1 ∷ 0 ∷ 0 ∷ 0 ∷ 0 ∷ 0 ∷ 0 ∷ 0 ∷ 0 ∷ 0 ∷ 0 ∷ 0 ∷ 0 ∷ 0 ∷ 0 ∷ 0 ∷ []))
+    ∷ said (buffer 0 0 (bytes 0 ++ (bytes 1 ++ bytes 0)))
     ∷ said (buffer 6 0 (0xAA ∷ []))
     ∷ []
+
+-- What is seen of the words that are left: the bytes of 0, 1, 0 and 1.
+abbrev pub sights : List (List (List ℕ))
+sights = (bytes 0 ∷ []) ∷ (bytes 1 ∷ []) ∷ (bytes 0 ∷ []) ∷ [] ∷ (bytes 1 ∷ []) ∷ [] ∷ [] ∷ []
