@@ -19,7 +19,7 @@ use Rattle.prime.proofs.Theorems.{power-is, power-rest, inverse-power}
 use Rattle.words.specs.Elements.{half, residue}
 use Rattle.words.specs.Limbs.{limbs}
 use Rattle.words.specs.Words.{Words}
-use Rattle.words.specs.Sums.{limit, total, products, dotRefusal}
+use Rattle.words.specs.Sums.{limit, total, products, dotWord, dotRefusal}
 use Rattle.words.specs.Orders.{order}
 use Rattle.words.proofs.Stands.{Stands, to}
 use Rattle.words.proofs.Totals.{each-product, products-length}
@@ -141,9 +141,17 @@ encoded-is s [] = refl
 encoded-is s (i ∷ is) = ap (λ (bs : List ℕ). bytesOf 8 (s i % P) ++ bs) (encoded-is s is)
 
 -- the words at the places of a list
-words-at : (s : ℕ → ℕ) → ((i : ℕ) → s i < 2 ^ 64) → (is : List ℕ) → Words (map s is)
+pub words-at : (s : ℕ → ℕ) → ((i : ℕ) → s i < 2 ^ 64) → (is : List ℕ) → Words (map s is)
 words-at s h [] = tt
 words-at s h (i ∷ is) = (h i, words-at s h is)
+
+pub dot-at : (s : ℕ → ℕ) → ((i : ℕ) → s i < 2 ^ 64) → (is js : List ℕ) → eqb (length (map s is)) (length (map s js)) ≡ true
+    → leb (length (map s is)) limit ≡ true → Stands (total (products (map s is) (map s js)) % P) (dotWord (map s is) (map s js))
+dot-at s h is js e l =
+    let xs : List ℕ = map s is in
+    let ys : List ℕ = map s js in
+    dot-stands (products xs ys) (each-product xs ys (words-at s h is) (words-at s h js))
+    (rw (products-length xs ys (eqb-true (length xs) (length ys) e)) (leb-true (length xs) limit l))
 
 -- where dot refuses nothing, the lists are of one length, within the limit
 paired : (t u : Bool) → eqb (cond t (cond u 0 5) 4) 0 ≡ true → (t ≡ true) × (u ≡ true)
@@ -167,11 +175,7 @@ respectful (dot is js) s n h =
     let ys : List ℕ = map s js in
     let e : dotRefusal xs ys ≡ dotRefusal is js = rw (length-map is s, length-map js s) in
     an-answer (eqb (dotRefusal xs ys) 0) (eqb (dotRefusal is js) 0) (ap (λ (k : ℕ). eqb k 0) e) e
-    (λ t.
-    let p = paired (eqb (length xs) (length ys)) (leb (length xs) limit) t in
-    to (products-is s is js)
-    (dot-stands (products xs ys) (each-product xs ys (words-at s h is) (words-at s h js))
-    (rw (products-length xs ys (eqb-true (length xs) (length ys) (p .0))) (leb-true (length xs) limit (p .1)))))
+    (λ t. let (p, q) = paired (eqb (length xs) (length ys)) (leb (length xs) limit) t in to (products-is s is js) (dot-at s h is js p q))
 respectful (from-i64 z fits) s n h = a-word (from-i64-stands z fits) (signed-is z)
 respectful (from-limbs lo hi) s n h = a-word (from-u128-stands (s lo) (s hi) (h lo) (h hi)) (limbs-is (s lo) (s hi))
 respectful (shift-up i k) s n h = a-word (shift-up-stands (s i) k (h i)) (up-is (s i) k)

@@ -19,10 +19,10 @@ use Rattle.calls.specs.Calls.{Call, add, sub, neg, reduce, mul, square, 
 use Rattle.calls.specs.Held.{summed, dotted, inverted, rooted, generated, slotted, coded, held}
 use Rattle.calls.specs.Contracts.{allowed, replied}
 
-answer : {t : Bool} {n w e : ℕ} {r : Answer} → Answered t n w e r → replied r ≡ answered t n w
+pub answer : {t : Bool} {n w e : ℕ} {r : Answer} → Answered t n w e r → replied r ≡ answered t n w
 answer h = ap₂ (λ (n w : ℕ). outcome (refusal n) (w ∷ [])) (h .refusal) (h .word)
 
-filled : {ws before after : List ℕ} {r : Coded} → Encoded ws before after r → said (buffer (codedRefusal r) (indexOf r) after) ≡ coded ws before
+pub filled : {ws before after : List ℕ} {r : Coded} → Encoded ws before after r → said (buffer (codedRefusal r) (indexOf r) after) ≡ coded ws before
 filled {ws} {before} {after} h =
     ap₂ (λ (n i : ℕ). said (buffer n i after)) (h .refusal) (h .index)
     ∙ ap (λ (bs : List ℕ). said (buffer (sizes (length ws) (length before)) 0 bs)) (h .bytes)

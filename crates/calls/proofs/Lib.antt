@@ -4,6 +4,7 @@ pub mod FirstRoot
 pub mod WholeNumbers
 pub mod Agreement
 pub mod Contracts
+pub mod Possible
 pub mod Theorems
 pub mod Determined
 pub mod Placements

@@ -27,24 +27,24 @@ from ws c o = record { words = ws; call = c; gives = o }
 abbrev top : ℕ
 top = 2 ^ 64 - 1
 
--- W1 to W13; W4, W8, W9 and W11 are two each.
+-- W1 to W13, in document 01's order.
 abbrev pub placements : List Placement
 placements =
-    from ((P - 1) ∷ 1 ∷ []) (add 0 1) (word P)
-    ∷ from (top ∷ []) (add 0 0) (word 0x1FFFFFFFC)
-    ∷ from (0 ∷ top ∷ []) (sub 0 1) (word 0xFFFFFFFE00000003)
-    ∷ from (0 ∷ []) (neg 0) (word P)
-    ∷ from (P ∷ []) (neg 0) (word P)
-    ∷ from ((P - 1) ∷ []) (mul 0 0) (word (P + 1))
-    ∷ from (2 ^ 32 ∷ []) (mul 0 0) (word 0xFFFFFFFF)
-    ∷ from (top ∷ []) (halve 0) (word 0xFFFFFFFF80000000)
-    ∷ from (1 ∷ []) (shift-down 0 32) (word 0xFFFFFFFE00000002)
-    ∷ from (1 ∷ []) (shift-down 0 2) (word 0xBFFFFFFF40000001)
-    ∷ from (0 ∷ []) (shift-up 0 96) (word P)
-    ∷ from (1 ∷ []) (shift-up 0 96) (word (P - 1))
-    ∷ from (top ∷ []) (dot (0 ∷ 0 ∷ []) (0 ∷ 0 ∷ [])) (word 0xFFFFFFF900000007)
-    ∷ from ((P - 1) ∷ []) (square-root 0) (word (2 ^ 48))
-    ∷ from (P ∷ []) (square-root 0) (word 0)
-    ∷ from (7 ∷ []) (square-root 0) (outcome (refusal 3) (0 ∷ []))
-    ∷ from [] (from-i64 (negsuc (2 ^ 63 - 1)) (record { sfits = lit< tt })) (word 0x7FFFFFFF00000001)
+    from ((P - 1) ∷ 1 ∷ []) (add 0 1) (word P)  -- W1
+    ∷ from (top ∷ []) (add 0 0) (word 0x1FFFFFFFC)  -- W2
+    ∷ from (0 ∷ top ∷ []) (sub 0 1) (word 0xFFFFFFFE00000003)  -- W3
+    ∷ from (0 ∷ []) (neg 0) (word P)  -- W4
+    ∷ from (P ∷ []) (neg 0) (word P)  -- W4
+    ∷ from ((P - 1) ∷ []) (mul 0 0) (word (P + 1))  -- W5
+    ∷ from (2 ^ 32 ∷ []) (mul 0 0) (word 0xFFFFFFFF)  -- W6
+    ∷ from (top ∷ []) (halve 0) (word 0xFFFFFFFF80000000)  -- W7
+    ∷ from (1 ∷ []) (shift-down 0 32) (word 0xFFFFFFFE00000002)  -- W8
+    ∷ from (1 ∷ []) (shift-down 0 2) (word 0xBFFFFFFF40000001)  -- W8
+    ∷ from (0 ∷ []) (shift-up 0 96) (word P)  -- W9
+    ∷ from (1 ∷ []) (shift-up 0 96) (word (P - 1))  -- W9
+    ∷ from (top ∷ []) (dot (0 ∷ 0 ∷ []) (0 ∷ 0 ∷ [])) (word 0xFFFFFFF900000007)  -- W10
+    ∷ from ((P - 1) ∷ []) (square-root 0) (word (2 ^ 48))  -- W11
+    ∷ from (P ∷ []) (square-root 0) (word 0)  -- W11
+    ∷ from (7 ∷ []) (square-root 0) (outcome (refusal 3) (0 ∷ []))  -- W12
+    ∷ from [] (from-i64 (negsuc (2 ^ 63 - 1)) (record { sfits = lit< tt })) (word 0x7FFFFFFF00000001)  -- W13
     ∷ []

@@ -59,6 +59,17 @@ module _ (F : Family) (respectful : Respectful F) where
   runs-alike cs ws vs ns h k e =
       sequence cs ws ns h ∙ ap (λ (es : List ℕ). map shown (run (F .whole) cs es ns)) e ∙ sym (sequence cs vs ns k)
 
+  -- Where each call may have its held outcome, the held run is one that may be.
+  pub plays-held : (may : F .Call → (ℕ → ℕ) → (ℕ → ℕ) → Outcome (F .Says) ℕ → Type 0)
+      → ((c : F .Call) (s n : ℕ → ℕ) → ((i : ℕ) → s i < 2 ^ 64) → may c s n (F .held c s n))
+      → (cs : List (F .Call)) (ws ns : List ℕ) → Words ws → Plays may cs ws ns (run (F .held) cs ws ns)
+  plays-held may can [] ws ns h = tt
+  plays-held may can (c ∷ cs) ws ns h =
+      let o : Outcome (F .Says) ℕ = F .held c (at ws) (at ns) in (
+        can c (at ws) (at ns) (word-at ws h),
+        plays-held may can cs (ws ++ o .words) (ns ++ o .numbers) (words-append ws (o .words) h (agrees c ws ns h .below)),
+      )
+
 -- Where a call may have no outcome but one, a run may have no outcomes but one list.
 module _ {Call Says : Type 0} (may : Call → (ℕ → ℕ) → (ℕ → ℕ) → Outcome Says ℕ → Type 0) (step : Step Call Says)
     (only : (c : Call) (s n : ℕ → ℕ) (o : Outcome Says ℕ) → may c s n o → o ≡ step c s n) where

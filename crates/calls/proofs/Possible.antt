@@ -1,0 +1,114 @@
+-- The contracts allow the held outcome of any call: beside `held-only`, it is the one that they allow.
+use mathlib.Core.Path.{_≡_, refl, sym, ap, ap₂, _∙_}
+use mathlib.Core.Bool.{Bool, true, false, not, cond, false≢true}
+use mathlib.Core.List.{List, [], _∷_, map}
+use Prim.Native.Nat.{ℕ, _-_, _*_, _%_, _^_, _<_}
+use borrow.Author.Tests.{leb-true}
+use denote.Ref.{RefT}
+use lib.Dec.{eqb, leb}
+use lib.ListN.{length}
+use Rattle.prime.specs.Modulus.{P, seventh}
+use Rattle.prime.proofs.Theorems.{inverse-power, power-of-root}
+use Rattle.words.specs.declared.answers.Refusal.{Refusal}
+use Rattle.words.specs.declared.answers.Refusal.the-variants.{InverseOfZero, NoSquareRoot, LengthsDiffer, TooMany, WrongBuffer, Above32}
+use Rattle.words.specs.declared.answers.Answer.{Answer}
+use Rattle.words.specs.declared.answers.Answer.the-variants.{Word, Refused}
+use Rattle.words.specs.Answers.{number}
+use Rattle.words.specs.Sums.{limit}
+use Rattle.words.specs.Orders.{order}
+use Rattle.words.specs.Promises.{Answered}
+use Rattle.words.proofs.Stands.{Stands, held as held-by, granted, refused}
+use Rattle.words.proofs.Laws.{seen, canonical-stands, add-stands, sub-stands, neg-stands, reduce-stands, mul-stands, halve-stands, from-u128-stands, slot-stands}
+use Rattle.words.proofs.SumLaws.{sum-stands}
+use Rattle.words.proofs.PowersOfTwo.{shift-up-stands, shift-down-stands}
+use Rattle.words.proofs.Signed.{from-i64-stands}
+use Rattle.roots.specs.Roots.{G, inverseWord, isSquare, rootWord}
+use Rattle.roots.specs.Promises.{Inverted, Rooted}
+use Rattle.roots.proofs.Canonical.{power-stands, not-inverted}
+use Rattle.roots.proofs.SquareRootWord.{is-square, rooted, unrooted}
+use Rattle.wire.specs.declared.answers.Coded.{Coded}
+use Rattle.wire.specs.declared.answers.Coded.the-variants.{Done, Refused as RefusedAt}
+use Rattle.wire.specs.Wire.{encoded}
+use Rattle.wire.specs.Answers.{refusalOf as codedRefusal, indexOf, sizes, kept}
+use Rattle.wire.specs.Promises.{Encoded}
+use Rattle.calls.specs.Calls.{Call, add, sub, neg, reduce, mul, square, halve, sum, dot, from-i64, from-limbs, shift-up, shift-down, inverse, square-root, seventh-root, generator, equal, compare, is-zero, slot, encode, canonical-form, outcome, figure}
+use Rattle.calls.specs.Held.{held}
+use Rattle.calls.specs.Contracts.{allowed}
+use Rattle.calls.proofs.FirstRoot.{first-squares, root-first}
+use Rattle.calls.proofs.Agreement.{words-at, dot-at}
+use Rattle.calls.proofs.Contracts.{answer, filled}
+
+-- ---- an answer for each promise that may refuse
+
+reply : (t : Bool) (f : Refusal) {w e : ℕ} → (t ≡ true → Stands e w) → (r : Answer) × Answered t (number f) w e r
+reply true f {w} s = (Word w, granted true refl refl (s refl))
+reply false f s = (Refused f, refused false f refl)
+
+reply-dot : (t u : Bool) {w e : ℕ} → (t ≡ true → u ≡ true → Stands e w)
+    → (r : Answer) × Answered (eqb (cond t (cond u 0 5) 4) 0) (cond t (cond u 0 5) 4) w e r
+reply-dot true true {w} s = (Word w, granted true refl refl (s refl refl))
+reply-dot true false s = (Refused TooMany, refused false TooMany refl)
+reply-dot false u s = (Refused LengthsDiffer, refused false LengthsDiffer refl)
+
+invert : (x : ℕ) (z : Bool) → eqb (x % P) 0 ≡ z → (r : Answer) × Inverted x r
+invert x true e = (Refused InverseOfZero, not-inverted x e)
+invert x false e = (Word (inverseWord x), record { answered = granted _ (ap not e) refl (power-stands x (P - 2)); product = inverse-power x })
+
+take-root : (x : ℕ) (q : Bool) → isSquare x ≡ q → (r : Answer) × Rooted x r
+take-root x true e =
+    let q = is-square x .0 e in (Word (rootWord x), rooted x (rootWord x) refl (rw (root-first x q) (first-squares x q)))
+take-root x false e = (Refused NoSquareRoot, unrooted x (λ q. false≢true (sym e ∙ is-square x .1 q)))
+
+coding : (t u : Bool) → (r : Coded) × (codedRefusal r ≡ cond t (cond u 0 6) 5) × (indexOf r ≡ 0)
+coding true true = (Done, refl, refl)
+coding true false = (RefusedAt WrongBuffer 0, refl, refl)
+coding false u = (RefusedAt TooMany 0, refl, refl)
+
+code : (ws before : List ℕ) → (r : Coded) × (after : List ℕ) × Encoded ws before after r
+code ws before =
+    let (r, f, i) = coding (leb (length ws) limit) (eqb (length before) (8 * length ws)) in
+    (r, kept (sizes (length ws) (length before)) (encoded ws) before, record { refusal = f; index = i; bytes = refl })
+
+-- a lent list, wherever it lies
+lent : List ℕ → RefT (List ℕ)
+lent xs = record { ptr = (0, 0); name = 0; now = xs }
+
+pub possible : (c : Call) (s : ℕ → ℕ) → ((i : ℕ) → s i < 2 ^ 64) → allowed c s (held c s)
+unfolding lent
+possible (add i j) s h = (tt, (s i, (s j, tt)), _, (s i, (s j, tt)), (refl, refl), held-by refl (add-stands (s i) (s j) (h i) (h j)), refl)
+possible (sub i j) s h = (tt, (s i, (s j, tt)), _, (s i, (s j, tt)), (refl, refl), held-by refl (sub-stands (s i) (s j) (h i) (h j)), refl)
+possible (neg i) s h = (tt, (s i, tt), _, (s i, tt), refl, held-by refl (neg-stands (s i) (h i)), refl)
+possible (reduce i j) s h = (tt, (s i, (s j, tt)), _, (s i, (s j, tt)), (refl, refl), held-by refl (reduce-stands (s i) (s j) (h i) (h j)), refl)
+possible (mul i j) s h = (tt, (s i, (s j, tt)), _, (s i, (s j, tt)), (refl, refl), held-by refl (mul-stands (s i) (s j) (h i) (h j)), refl)
+possible (square i) s h = (tt, (s i, tt), _, (s i, tt), refl, held-by refl (mul-stands (s i) (s i) (h i) (h i)), refl)
+possible (halve i) s h = (tt, (s i, tt), _, (s i, tt), refl, held-by refl (halve-stands (s i) (h i)), refl)
+possible (sum is) s h =
+    let xs : List ℕ = map s is in
+    let (r, a) = reply (leb (length xs) limit) TooMany (λ t. sum-stands xs (words-at s h is) (leb-true (length xs) limit t)) in
+    (([], tt), (lent xs, tt), r, (lent xs, tt), refl, a, sym (answer a))
+possible (dot is js) s h =
+    let xs : List ℕ = map s is in
+    let ys : List ℕ = map s js in
+    let (r, a) = reply-dot (eqb (length xs) (length ys)) (leb (length xs) limit) (dot-at s h is js) in
+    (([], ([], tt)), (lent xs, (lent ys, tt)), r, (lent xs, (lent ys, tt)), (refl, refl), a, sym (answer a))
+possible (from-i64 z fits) s h = (tt, (z, tt), _, (z, tt), refl, held-by refl (from-i64-stands z fits), refl)
+possible (from-limbs i j) s h = (tt, (s i, (s j, tt)), _, (s i, (s j, tt)), (refl, refl), held-by refl (from-u128-stands (s i) (s j) (h i) (h j)), refl)
+possible (shift-up i k) s h = (tt, (s i, (k, tt)), _, (s i, (k, tt)), (refl, refl), held-by refl (shift-up-stands (s i) k (h i)), refl)
+possible (shift-down i k) s h = (tt, (s i, (k, tt)), _, (s i, (k, tt)), (refl, refl), held-by refl (shift-down-stands (s i) k (h i)), refl)
+possible (inverse i) s h = let (r, a) = invert (s i) _ refl in (tt, (s i, tt), r, (s i, tt), refl, a, sym (answer (a .answered)))
+possible (square-root i) s h = let (r, a) = take-root (s i) _ refl in (tt, (s i, tt), r, (s i, tt), refl, a, sym (answer (a .answered)))
+possible (seventh-root i) s h =
+    (tt, (s i, tt), _, (s i, tt), refl, record { held = held-by refl (power-stands (s i) seventh); seventh-power = power-of-root (s i) }, refl)
+possible (generator k) s h =
+    let (r, a) = reply (leb k 32) Above32 (λ _. power-stands G (2 ^ (32 - k))) in (tt, (k, tt), r, (k, tt), refl, a, sym (answer a))
+possible (equal i j) s h = (tt, (s i, (s j, tt)), _, (s i, (s j, tt)), (refl, refl), seen eqb (s i) (s j) (h i) (h j) refl refl refl, refl)
+possible (compare i j) s h = (tt, (s i, (s j, tt)), _, (s i, (s j, tt)), (refl, refl), seen order (s i) (s j) (h i) (h j) refl refl refl, refl)
+possible (is-zero i) s h = (tt, (s i, tt), _, (s i, tt), refl, seen (λ a _. eqb a 0) (s i) (s i) (h i) (h i) refl refl refl, refl)
+possible (slot i k) s h =
+    let (r, a) = reply (leb k 32) Above32 (λ _. slot-stands (s i) k (h i)) in
+    (tt, (s i, (k, tt)), r, (s i, (k, tt)), (refl, refl), a, sym (ap₂ (λ (n w : ℕ). outcome (figure n w) (w ∷ [])) (a .refusal) (a .word)))
+possible (encode is before) s h =
+    let ws : List ℕ = map s is in
+    let (r, after, a) = code ws before in
+    (([], ([], tt)), (lent ws, (lent before, tt)), r, (lent ws, (lent after, tt)), (refl, refl), a, sym (filled a))
+possible (canonical-form i) s h = (tt, (s i, tt), _, (s i, tt), refl, held-by refl (canonical-stands (s i) (h i)), refl)
