@@ -31,9 +31,10 @@ use Rattle.wire.specs.declared.answers.Coded.the-variants.{Done, Refused as Ref
 use Rattle.wire.specs.Wire.{encoded}
 use Rattle.wire.specs.Answers.{refusalOf as codedRefusal, indexOf, sizes, kept}
 use Rattle.wire.specs.Promises.{Encoded}
-use Rattle.calls.specs.Calls.{Call, add, sub, neg, reduce, mul, square, halve, sum, dot, from-i64, from-limbs, shift-up, shift-down, inverse, square-root, seventh-root, generator, equal, compare, is-zero, slot, encode, canonical-form, outcome, figure}
+use Rattle.sequence.specs.Outcomes.{Outcome}
+use Rattle.calls.specs.Calls.{Call, add, sub, neg, reduce, mul, square, halve, sum, dot, from-i64, from-limbs, shift-up, shift-down, inverse, square-root, seventh-root, generator, equal, compare, is-zero, slot, encode, canonical-form, Says, outcome, figure}
 use Rattle.calls.specs.Held.{held}
-use Rattle.calls.specs.Contracts.{allowed}
+use Rattle.calls.specs.Contracts.{One, Two, allowed}
 use Rattle.calls.proofs.FirstRoot.{first-squares, root-first}
 use Rattle.calls.proofs.Agreement.{words-at, dot-at}
 use Rattle.calls.proofs.Contracts.{answer, filled}
@@ -73,15 +74,25 @@ code ws before =
 lent : List ℕ → RefT (List ℕ)
 lent xs = record { ptr = (0, 0); name = 0; now = xs }
 
+-- ---- a call on one number, and on two; each is at exit what it was
+
+one : {N R : Type 0} {C : Unit {0} → N × Unit {0} → R → N × Unit {0} → Type 0} {of : R → Outcome Says ℕ} {o : Outcome Says ℕ} (x : N) (r : R)
+    → C tt (x, tt) r (x, tt) → o ≡ of r → One C x of o
+one x r h e = (tt, (x, tt), r, (x, tt), refl, h, e)
+
+two : {R : Type 0} {C : Unit {0} → ℕ × (ℕ × Unit {0}) → R → ℕ × (ℕ × Unit {0}) → Type 0} {of : R → Outcome Says ℕ} {o : Outcome Says ℕ} (x y : ℕ) (r : R)
+    → C tt (x, (y, tt)) r (x, (y, tt)) → o ≡ of r → Two C x y of o
+two x y r h e = (tt, (x, (y, tt)), r, (x, (y, tt)), (refl, refl), h, e)
+
 pub possible : (c : Call) (s : ℕ → ℕ) → ((i : ℕ) → s i < 2 ^ 64) → allowed c s (held c s)
 unfolding lent
-possible (add i j) s h = (tt, (s i, (s j, tt)), _, (s i, (s j, tt)), (refl, refl), held-by refl (add-stands (s i) (s j) (h i) (h j)), refl)
-possible (sub i j) s h = (tt, (s i, (s j, tt)), _, (s i, (s j, tt)), (refl, refl), held-by refl (sub-stands (s i) (s j) (h i) (h j)), refl)
-possible (neg i) s h = (tt, (s i, tt), _, (s i, tt), refl, held-by refl (neg-stands (s i) (h i)), refl)
-possible (reduce i j) s h = (tt, (s i, (s j, tt)), _, (s i, (s j, tt)), (refl, refl), held-by refl (reduce-stands (s i) (s j) (h i) (h j)), refl)
-possible (mul i j) s h = (tt, (s i, (s j, tt)), _, (s i, (s j, tt)), (refl, refl), held-by refl (mul-stands (s i) (s j) (h i) (h j)), refl)
-possible (square i) s h = (tt, (s i, tt), _, (s i, tt), refl, held-by refl (mul-stands (s i) (s i) (h i) (h i)), refl)
-possible (halve i) s h = (tt, (s i, tt), _, (s i, tt), refl, held-by refl (halve-stands (s i) (h i)), refl)
+possible (add i j) s h = two (s i) (s j) _ (held-by refl (add-stands (s i) (s j) (h i) (h j))) refl
+possible (sub i j) s h = two (s i) (s j) _ (held-by refl (sub-stands (s i) (s j) (h i) (h j))) refl
+possible (neg i) s h = one (s i) _ (held-by refl (neg-stands (s i) (h i))) refl
+possible (reduce i j) s h = two (s i) (s j) _ (held-by refl (reduce-stands (s i) (s j) (h i) (h j))) refl
+possible (mul i j) s h = two (s i) (s j) _ (held-by refl (mul-stands (s i) (s j) (h i) (h j))) refl
+possible (square i) s h = one (s i) _ (held-by refl (mul-stands (s i) (s i) (h i) (h i))) refl
+possible (halve i) s h = one (s i) _ (held-by refl (halve-stands (s i) (h i))) refl
 possible (sum is) s h =
     let xs : List ℕ = map s is in
     let (r, a) = reply (leb (length xs) limit) TooMany (λ t. sum-stands xs (words-at s h is) (leb-true (length xs) limit t)) in
@@ -91,24 +102,23 @@ possible (dot is js) s h =
     let ys : List ℕ = map s js in
     let (r, a) = reply-dot (eqb (length xs) (length ys)) (leb (length xs) limit) (dot-at s h is js) in
     (([], ([], tt)), (lent xs, (lent ys, tt)), r, (lent xs, (lent ys, tt)), (refl, refl), a, sym (answer a))
-possible (from-i64 z fits) s h = (tt, (z, tt), _, (z, tt), refl, held-by refl (from-i64-stands z fits), refl)
-possible (from-limbs i j) s h = (tt, (s i, (s j, tt)), _, (s i, (s j, tt)), (refl, refl), held-by refl (from-u128-stands (s i) (s j) (h i) (h j)), refl)
-possible (shift-up i k) s h = (tt, (s i, (k, tt)), _, (s i, (k, tt)), (refl, refl), held-by refl (shift-up-stands (s i) k (h i)), refl)
-possible (shift-down i k) s h = (tt, (s i, (k, tt)), _, (s i, (k, tt)), (refl, refl), held-by refl (shift-down-stands (s i) k (h i)), refl)
-possible (inverse i) s h = let (r, a) = invert (s i) _ refl in (tt, (s i, tt), r, (s i, tt), refl, a, sym (answer (a .answered)))
-possible (square-root i) s h = let (r, a) = take-root (s i) _ refl in (tt, (s i, tt), r, (s i, tt), refl, a, sym (answer (a .answered)))
-possible (seventh-root i) s h =
-    (tt, (s i, tt), _, (s i, tt), refl, record { held = held-by refl (power-stands (s i) seventh); seventh-power = power-of-root (s i) }, refl)
+possible (from-i64 z fits) s h = one z _ (held-by refl (from-i64-stands z fits)) refl
+possible (from-limbs i j) s h = two (s i) (s j) _ (held-by refl (from-u128-stands (s i) (s j) (h i) (h j))) refl
+possible (shift-up i k) s h = two (s i) k _ (held-by refl (shift-up-stands (s i) k (h i))) refl
+possible (shift-down i k) s h = two (s i) k _ (held-by refl (shift-down-stands (s i) k (h i))) refl
+possible (inverse i) s h = let (r, a) = invert (s i) _ refl in one (s i) r a (sym (answer (a .answered)))
+possible (square-root i) s h = let (r, a) = take-root (s i) _ refl in one (s i) r a (sym (answer (a .answered)))
+possible (seventh-root i) s h = one (s i) _ (record { held = held-by refl (power-stands (s i) seventh); seventh-power = power-of-root (s i) }) refl
 possible (generator k) s h =
-    let (r, a) = reply (leb k 32) Above32 (λ _. power-stands G (2 ^ (32 - k))) in (tt, (k, tt), r, (k, tt), refl, a, sym (answer a))
-possible (equal i j) s h = (tt, (s i, (s j, tt)), _, (s i, (s j, tt)), (refl, refl), seen eqb (s i) (s j) (h i) (h j) refl refl refl, refl)
-possible (compare i j) s h = (tt, (s i, (s j, tt)), _, (s i, (s j, tt)), (refl, refl), seen order (s i) (s j) (h i) (h j) refl refl refl, refl)
-possible (is-zero i) s h = (tt, (s i, tt), _, (s i, tt), refl, seen (λ a _. eqb a 0) (s i) (s i) (h i) (h i) refl refl refl, refl)
+    let (r, a) = reply (leb k 32) Above32 (λ _. power-stands G (2 ^ (32 - k))) in one k r a (sym (answer a))
+possible (equal i j) s h = two (s i) (s j) _ (seen eqb (s i) (s j) (h i) (h j) refl refl refl) refl
+possible (compare i j) s h = two (s i) (s j) _ (seen order (s i) (s j) (h i) (h j) refl refl refl) refl
+possible (is-zero i) s h = one (s i) _ (seen (λ a _. eqb a 0) (s i) (s i) (h i) (h i) refl refl refl) refl
 possible (slot i k) s h =
     let (r, a) = reply (leb k 32) Above32 (λ _. slot-stands (s i) k (h i)) in
-    (tt, (s i, (k, tt)), r, (s i, (k, tt)), (refl, refl), a, sym (ap₂ (λ (n w : ℕ). outcome (figure n w) (w ∷ [])) (a .refusal) (a .word)))
+    two (s i) k r a (sym (ap₂ (λ (n w : ℕ). outcome (figure n w) (w ∷ [])) (a .refusal) (a .word)))
 possible (encode is before) s h =
     let ws : List ℕ = map s is in
     let (r, after, a) = code ws before in
     (([], ([], tt)), (lent ws, (lent before, tt)), r, (lent ws, (lent after, tt)), (refl, refl), a, sym (filled a))
-possible (canonical-form i) s h = (tt, (s i, tt), _, (s i, tt), refl, held-by refl (canonical-stands (s i) (h i)), refl)
+possible (canonical-form i) s h = one (s i) _ (held-by refl (canonical-stands (s i) (h i))) refl

@@ -34,10 +34,18 @@ use Rattle.goldilocks.proofs.as_canonical_u64.Reads as fn-as-canonical-u64
 use Rattle.sequence.specs.Outcomes.{Outcome}
 use Rattle.calls.specs.Calls.{Call, add, sub, neg, reduce, mul, square, halve, sum, dot, from-i64, from-limbs, shift-up, shift-down, inverse, square-root, seventh-root, generator, equal, compare, is-zero, slot, encode, canonical-form, Says, refusal, figure, truth, ordering, buffer, outcome, word, figured, said}
 
--- o is made of an answer that the contract C allows, from arguments of which `given` holds.
+-- o is what `of` makes of an answer that the contract C allows, from arguments of which `given` holds.
 abbrev pub Allows : {K : Type 0} {A R S : K → Type 0} → ((k : K) → A k → R k → S k → Type 0)
     → ((k : K) → A k → Type 0) → ((k : K) → R k → S k → Outcome Says ℕ) → Outcome Says ℕ → Type 0
 Allows {K} {A} {R} {S} C given of o = (k : K) × (a : A k) × (r : R k) × (t : S k) × given k a × C k a r t × (o ≡ of k r t)
+
+-- The same for a function of one number, called on x.
+abbrev pub One : {N R : Type 0} → (Unit {0} → N × Unit {0} → R → N × Unit {0} → Type 0) → N → (R → Outcome Says ℕ) → Outcome Says ℕ → Type 0
+One C x of = Allows C (λ k a. a .0 ≡ x) (λ k r t. of r)
+
+-- The same for a function of two numbers, called on x and y.
+abbrev pub Two : {R : Type 0} → (Unit {0} → ℕ × (ℕ × Unit {0}) → R → ℕ × (ℕ × Unit {0}) → Type 0) → ℕ → ℕ → (R → Outcome Says ℕ) → Outcome Says ℕ → Type 0
+Two C x y of = Allows C (λ k a. (a .0 ≡ x) × (a .1 .0 ≡ y)) (λ k r t. of r)
 
 -- What is made of an answer that may be a refusal.
 abbrev pub replied : Answer → Outcome Says ℕ
@@ -45,26 +53,26 @@ replied r = outcome (refusal (refusalOf r)) (wordOf r ∷ [])
 
 -- s gives the word at each place.
 abbrev pub allowed : Call → (ℕ → ℕ) → Outcome Says ℕ → Type 0
-allowed (add i j) s = Allows fn-add.Learnt (λ k a. (a .0 ≡ s i) × (a .1 .0 ≡ s j)) (λ k r t. word r)
-allowed (sub i j) s = Allows fn-sub.Learnt (λ k a. (a .0 ≡ s i) × (a .1 .0 ≡ s j)) (λ k r t. word r)
-allowed (neg i) s = Allows fn-neg.Learnt (λ k a. a .0 ≡ s i) (λ k r t. word r)
-allowed (reduce lo hi) s = Allows fn-reduce128.Learnt (λ k a. (a .0 ≡ s lo) × (a .1 .0 ≡ s hi)) (λ k r t. word r)
-allowed (mul i j) s = Allows fn-mul.Learnt (λ k a. (a .0 ≡ s i) × (a .1 .0 ≡ s j)) (λ k r t. word r)
-allowed (square i) s = Allows fn-square.Learnt (λ k a. a .0 ≡ s i) (λ k r t. word r)
-allowed (halve i) s = Allows fn-halve.Learnt (λ k a. a .0 ≡ s i) (λ k r t. word r)
+allowed (add i j) s = Two fn-add.Learnt (s i) (s j) word
+allowed (sub i j) s = Two fn-sub.Learnt (s i) (s j) word
+allowed (neg i) s = One fn-neg.Learnt (s i) word
+allowed (reduce lo hi) s = Two fn-reduce128.Learnt (s lo) (s hi) word
+allowed (mul i j) s = Two fn-mul.Learnt (s i) (s j) word
+allowed (square i) s = One fn-square.Learnt (s i) word
+allowed (halve i) s = One fn-halve.Learnt (s i) word
 allowed (sum is) s = Allows fn-sum-array.Learnt (λ k a. now (a .0) ≡ map s is) (λ k r t. replied r)
 allowed (dot is js) s = Allows fn-dot-product.Learnt (λ k a. (now (a .0) ≡ map s is) × (now (a .1 .0) ≡ map s js)) (λ k r t. replied r)
-allowed (from-i64 z fits) s = Allows fn-from-i64.Learnt (λ k a. a .0 ≡ z) (λ k r t. word r)
-allowed (from-limbs lo hi) s = Allows fn-from-u128.Learnt (λ k a. (a .0 ≡ s lo) × (a .1 .0 ≡ s hi)) (λ k r t. word r)
-allowed (shift-up i e) s = Allows fn-mul-2exp-u64.Learnt (λ k a. (a .0 ≡ s i) × (a .1 .0 ≡ e)) (λ k r t. word r)
-allowed (shift-down i e) s = Allows fn-div-2exp-u64.Learnt (λ k a. (a .0 ≡ s i) × (a .1 .0 ≡ e)) (λ k r t. word r)
-allowed (inverse i) s = Allows fn-try-inverse.Learnt (λ k a. a .0 ≡ s i) (λ k r t. replied r)
-allowed (square-root i) s = Allows fn-try-sqrt.Learnt (λ k a. a .0 ≡ s i) (λ k r t. replied r)
-allowed (seventh-root i) s = Allows fn-injective-exp-root-n.Learnt (λ k a. a .0 ≡ s i) (λ k r t. word r)
-allowed (generator k) s = Allows fn-two-adic-generator.Learnt (λ _ a. a .0 ≡ k) (λ k r t. replied r)
-allowed (equal i j) s = Allows fn-eq.Learnt (λ k a. (a .0 ≡ s i) × (a .1 .0 ≡ s j)) (λ k r t. said (truth r))
-allowed (compare i j) s = Allows fn-cmp.Learnt (λ k a. (a .0 ≡ s i) × (a .1 .0 ≡ s j)) (λ k r t. said (ordering r))
-allowed (is-zero i) s = Allows fn-is-zero.Learnt (λ k a. a .0 ≡ s i) (λ k r t. said (truth r))
-allowed (slot i bits) s = Allows fn-slot.Learnt (λ k a. (a .0 ≡ s i) × (a .1 .0 ≡ bits)) (λ k r t. outcome (figure (refusalOf r) (wordOf r)) (wordOf r ∷ []))
+allowed (from-i64 z fits) s = One fn-from-i64.Learnt z word
+allowed (from-limbs lo hi) s = Two fn-from-u128.Learnt (s lo) (s hi) word
+allowed (shift-up i e) s = Two fn-mul-2exp-u64.Learnt (s i) e word
+allowed (shift-down i e) s = Two fn-div-2exp-u64.Learnt (s i) e word
+allowed (inverse i) s = One fn-try-inverse.Learnt (s i) replied
+allowed (square-root i) s = One fn-try-sqrt.Learnt (s i) replied
+allowed (seventh-root i) s = One fn-injective-exp-root-n.Learnt (s i) word
+allowed (generator k) s = One fn-two-adic-generator.Learnt k replied
+allowed (equal i j) s = Two fn-eq.Learnt (s i) (s j) (λ r. said (truth r))
+allowed (compare i j) s = Two fn-cmp.Learnt (s i) (s j) (λ r. said (ordering r))
+allowed (is-zero i) s = One fn-is-zero.Learnt (s i) (λ r. said (truth r))
+allowed (slot i bits) s = Two fn-slot.Learnt (s i) bits (λ r. outcome (figure (refusalOf r) (wordOf r)) (wordOf r ∷ []))
 allowed (encode is before) s = Allows fn-encode.Learnt (λ k a. (now (a .0) ≡ map s is) × (now (a .1 .0) ≡ before)) (λ k r t. said (buffer (codedRefusal r) (indexOf r) (now (t .1 .0))))
-allowed (canonical-form i) s = Allows fn-as-canonical-u64.Learnt (λ k a. a .0 ≡ s i) (λ k r t. figured true 0 r)
+allowed (canonical-form i) s = One fn-as-canonical-u64.Learnt (s i) (figured true 0)
