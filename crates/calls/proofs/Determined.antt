@@ -76,8 +76,8 @@ unfolding told numbered
 told-is (Word w) = refl
 told-is (Refused r) = numbered-is (Word 0) Refused r
 
-answer : {t : Bool} {n w e : ℕ} {r : Answer} → Answered t n w e r → r ≡ told (cond t 0 n) (cond t w 0)
-answer {r = r} h = told-is r ∙ ap₂ told (h .refusal) (h .word)
+told-by : {t : Bool} {n w e : ℕ} {r : Answer} → Answered t n w e r → r ≡ told (cond t 0 n) (cond t w 0)
+told-by {r = r} h = told-is r ∙ ap₂ told (h .refusal) (h .word)
 
 coded : ℕ → ℕ → Coded
 coded n i = numbered Done (λ r. RefusedAt r i) n
@@ -115,10 +115,10 @@ pub halve-determined : Determined halve.Asked halve.Learnt
 halve-determined = record { free = λ k a. tt; answer = fixed (λ k a r s h. h .word) }
 
 pub sum-array-determined : Determined sum-array.Asked sum-array.Learnt
-sum-array-determined = record { free = λ k a. tt; answer = fixed (λ k a r s h. answer h) }
+sum-array-determined = record { free = λ k a. tt; answer = fixed (λ k a r s h. told-by h) }
 
 pub dot-product-determined : Determined dot-product.Asked dot-product.Learnt
-dot-product-determined = record { free = λ k a. tt; answer = fixed (λ k a r s h. answer h) }
+dot-product-determined = record { free = λ k a. tt; answer = fixed (λ k a r s h. told-by h) }
 
 pub from-i64-determined : Determined from-i64.Asked from-i64.Learnt
 from-i64-determined = record { free = λ k a. tt; answer = fixed (λ k a r s h. h .word) }
@@ -133,16 +133,16 @@ pub div-2exp-u64-determined : Determined div-2exp-u64.Asked div-2exp-u64.Learnt
 div-2exp-u64-determined = record { free = λ k a. tt; answer = fixed (λ k a r s h. h .word) }
 
 pub try-inverse-determined : Determined try-inverse.Asked try-inverse.Learnt
-try-inverse-determined = record { free = λ k a. tt; answer = fixed (λ k a r s h. answer (h .answered)) }
+try-inverse-determined = record { free = λ k a. tt; answer = fixed (λ k a r s h. told-by (h .answered)) }
 
 pub try-sqrt-determined : Determined try-sqrt.Asked try-sqrt.Learnt
-try-sqrt-determined = record { free = λ k a. tt; answer = fixed (λ k a r s h. answer (h .answered)) }
+try-sqrt-determined = record { free = λ k a. tt; answer = fixed (λ k a r s h. told-by (h .answered)) }
 
 pub injective-exp-root-n-determined : Determined injective-exp-root-n.Asked injective-exp-root-n.Learnt
 injective-exp-root-n-determined = record { free = λ k a. tt; answer = fixed (λ k a r s h. h .held .word) }
 
 pub two-adic-generator-determined : Determined two-adic-generator.Asked two-adic-generator.Learnt
-two-adic-generator-determined = record { free = λ k a. tt; answer = fixed (λ k a r s h. answer h) }
+two-adic-generator-determined = record { free = λ k a. tt; answer = fixed (λ k a r s h. told-by h) }
 
 pub eq-determined : Determined eq.Asked eq.Learnt
 eq-determined = record { free = λ k a. tt; answer = fixed (λ k a r s h. h .canonical) }
@@ -154,7 +154,7 @@ pub is-zero-determined : Determined is-zero.Asked is-zero.Learnt
 is-zero-determined = record { free = λ k a. tt; answer = fixed (λ k a r s h. h .canonical) }
 
 pub slot-determined : Determined slot.Asked slot.Learnt
-slot-determined = record { free = λ k a. tt; answer = fixed (λ k a r s h. answer h) }
+slot-determined = record { free = λ k a. tt; answer = fixed (λ k a r s h. told-by h) }
 
 pub encode-determined : Determined encode.Asked encode.Learnt
 encode-determined = record { free = λ k a. tt; answer = fixed (λ k a r s h. coded-is r ∙ ap₂ coded (h .refusal) (h .index)) }
@@ -173,10 +173,10 @@ pub as-canonical-u64-determined : Determined as-canonical-u64.Asked as-canonical
 as-canonical-u64-determined = record { free = λ k a. tt; answer = fixed (λ k a r s h. h .word) }
 
 pub from-canonical-checked-u64-determined : Determined from-canonical-checked-u64.Asked from-canonical-checked-u64.Learnt
-from-canonical-checked-u64-determined = record { free = λ k a. tt; answer = fixed (λ k a r s h. answer h) }
+from-canonical-checked-u64-determined = record { free = λ k a. tt; answer = fixed (λ k a r s h. told-by h) }
 
 pub from-canonical-checked-i64-determined : Determined from-canonical-checked-i64.Asked from-canonical-checked-i64.Learnt
-from-canonical-checked-i64-determined = record { free = λ k a. tt; answer = fixed (λ k a r s h. answer h) }
+from-canonical-checked-i64-determined = record { free = λ k a. tt; answer = fixed (λ k a r s h. told-by h) }
 
 pub value-determined : Determined value.Asked value.Learnt
 value-determined = record { free = λ k a. tt; answer = fixed (λ k a r s h. h .word) }
