@@ -3,16 +3,9 @@
 -- functions' own `requires` and `ensures`.
 use mathlib.Core.Path.{_≡_, refl, sym, ap₂, _∙_}
 use mathlib.Core.Bool.{Bool, cond}
-use mathlib.Core.List.{List, [], _∷_}
-use Prim.Native.Nat.{ℕ, zero, suc}
-use lib.ListN.{getD}
+use Prim.Native.Nat.{ℕ}
 use denote.Ref.{now}
-use Rattle.words.specs.declared.answers.Refusal.{Refusal}
-use Rattle.words.specs.declared.answers.Refusal.the-variants.{OutOfRange, InverseOfZero, NoSquareRoot, LengthsDiffer, TooMany, WrongBuffer, Above32, Unreadable}
-use Rattle.words.specs.declared.answers.Answer.{Answer}
-use Rattle.words.specs.declared.answers.Answer.the-variants.{Word, Refused}
-use Rattle.words.specs.Answers.{number as numberOf, refusalOf, wordOf}
-use Rattle.words.specs.Promises.{Answered}
+use Rattle.words.proofs.Told.{numbered, numbered-is, told-by}
 use Rattle.wire.specs.declared.answers.Coded.{Coded}
 use Rattle.wire.specs.declared.answers.Coded.the-variants.{Done, Refused as RefusedAt}
 use Rattle.wire.specs.Answers.{refusalOf as codedRefusal, indexOf}
@@ -47,37 +40,6 @@ use Rattle.words.proofs.answers.Refusal.number.Reads as number
 use Rattle.calls.specs.Determined.{Fixes, Determined}
 
 -- ---- an answer is told by the numbers that the promises speak of
-
-refusals : List Refusal
-refusals = OutOfRange ∷ InverseOfZero ∷ NoSquareRoot ∷ LengthsDiffer ∷ TooMany ∷ WrongBuffer ∷ Above32 ∷ Unreadable ∷ []
-
--- z for no refusal, f of the refusal of each number
-numbered : {A : Type 0} → A → (Refusal → A) → ℕ → A
-unfolding refusals
-numbered z f zero = z
-numbered z f (suc n) = f (getD refusals n OutOfRange)
-
-numbered-is : {A : Type 0} (z : A) (f : Refusal → A) (r : Refusal) → f r ≡ numbered z f (numberOf r)
-unfolding refusals numbered
-numbered-is z f OutOfRange = refl
-numbered-is z f InverseOfZero = refl
-numbered-is z f NoSquareRoot = refl
-numbered-is z f LengthsDiffer = refl
-numbered-is z f TooMany = refl
-numbered-is z f WrongBuffer = refl
-numbered-is z f Above32 = refl
-numbered-is z f Unreadable = refl
-
-told : ℕ → ℕ → Answer
-told n w = numbered (Word w) Refused n
-
-told-is : (r : Answer) → r ≡ told (refusalOf r) (wordOf r)
-unfolding told numbered
-told-is (Word w) = refl
-told-is (Refused r) = numbered-is (Word 0) Refused r
-
-told-by : {t : Bool} {n w e : ℕ} {r : Answer} → Answered t n w e r → r ≡ told (cond t 0 n) (cond t w 0)
-told-by {r = r} h = told-is r ∙ ap₂ told (h .refusal) (h .word)
 
 coded : ℕ → ℕ → Coded
 coded n i = numbered Done (λ r. RefusedAt r i) n

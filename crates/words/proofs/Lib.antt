@@ -1,6 +1,7 @@
--- Laws of the definitions. Those above cite Stands, Laws, SumLaws, PowersOfTwo and Signed, and Choice and Tables in proofs of their own; the rest serves
+-- Laws of the definitions. Those above cite Stands, Told, Laws, SumLaws, PowersOfTwo and Signed, and Choice and Tables in proofs of their own; the rest serves
 -- the proofs here.
 pub mod Choice
+pub mod Told
 pub mod Stands
 pub mod Corrections
 pub mod Products

@@ -1,0 +1,11 @@
+-- Laws of the definitions. Those above cite Theorems, and Counts in proofs of their own; the rest serves the proofs here.
+pub mod Readings
+pub mod Cutting
+pub mod Shapes
+pub mod Parts
+pub mod Turns
+pub mod Feeding
+pub mod OpenLine
+pub mod Counts
+pub mod Theorems
+pub mod Example

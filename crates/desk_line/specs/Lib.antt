@@ -1,0 +1,5 @@
+-- What the contracts of this crate speak of.
+pub mod Replies
+pub mod Pieces
+pub mod Promises
+pub mod Example

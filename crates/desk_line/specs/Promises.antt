@@ -1,0 +1,21 @@
+-- The promises of the contracts.
+use mathlib.Core.Path.{_≡_}
+use mathlib.Core.List.{List, _++_}
+use Prim.Native.Nat.{ℕ, _-_, _/_, min}
+use lib.ListN.{length, take, drop, replicate}
+use Rattle.desk_line.specs.declared.desk.Desk.{Desk}
+use Rattle.desk_line.specs.declared.desk.Fed.{Fed}
+use Rattle.desk_line.specs.declared.replies.Reply.{Reply}
+use Rattle.desk_line.specs.Pieces.{after, written}
+
+-- The reply r is the bytes t, with zeros behind them.
+pub record Says (t : List ℕ) (r : Reply) : Type 0 where
+  pub count : r .len ≡ length t
+  pub bytes : r .text ≡ t ++ replicate (17 - length t) 0
+
+-- The desk d was fed a piece: as much of it as there are 17 bytes in the lent buffer for each byte. The replies stand in front there.
+pub record Feeds (d : Desk) (piece before exit : List ℕ) (r : Fed) : Type 0 where
+  pub taken : r .taken ≡ min (length piece) (length before / 17)
+  pub desk : r .desk ≡ after d (take (r .taken) piece)
+  pub count : r .written ≡ length (written d (take (r .taken) piece))
+  pub bytes : exit ≡ written d (take (r .taken) piece) ++ drop (r .written) before
