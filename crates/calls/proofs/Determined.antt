@@ -2,7 +2,6 @@
 -- of `goldilocks`. `X.Asked` and `X.Learnt` are the contract of the function X as the kit hands it to X's callers, so what stands here is said of the
 -- functions' own `requires` and `ensures`.
 use mathlib.Core.Path.{_≡_, refl, sym, ap₂, _∙_}
-use mathlib.Core.Bool.{Bool, cond}
 use Prim.Native.Nat.{ℕ}
 use denote.Ref.{now}
 use Rattle.words.proofs.Told.{numbered, numbered-is, told-by}

@@ -14,12 +14,11 @@ use Rattle.desk_line.specs.declared.replies.Reply.{Reply}
 use Rattle.desk_line.specs.Replies.{answerTo, reply}
 use Rattle.desk_line.specs.Pieces.{begun, step, after, written}
 use Rattle.desk_line.specs.Promises.{Says, Feeds}
+use Rattle.desk_line.proofs.Counts.{says-fits}
 use Rattle.desk_line.proofs.Cutting.{after-append, written-append, text-length}
 
 pub reply-fits : (line : List ℕ) {r : Reply} → Says (reply line) r → (r .len ≤ 17) × (r .len ≤ length (r .text))
-reply-fits line s =
-    let l : length (reply line) ≤ 17 = text-length (answerTo line) in
-    (omega arith, omega (arith, simp length-append at (ap length (s .bytes))))
+reply-fits line s = (omega (arith, s .count, text-length (answerTo line)), says-fits s)
 
 -- after i bytes the desk d has become e, and n bytes stand in front of the buffer, which was lent as `before`
 pub record Feeding (d : Desk) (piece before : List ℕ) (i : ℕ) (e : Desk) (n : ℕ) (out : List ℕ) : Type 0 where

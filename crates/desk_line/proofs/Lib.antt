@@ -4,8 +4,8 @@ pub mod Cutting
 pub mod Shapes
 pub mod Parts
 pub mod Turns
+pub mod Counts
 pub mod Feeding
 pub mod OpenLine
-pub mod Counts
 pub mod Theorems
 pub mod Example

@@ -81,3 +81,9 @@ made-hex zero x h = omega arith
 made-hex (suc k) x h =
     made-append 0 (hex k (x / 16)) (glyph (x % 16) ∷ [])
     ∙ omega (arith, made-hex k (x / 16) (omega arith), digit-glyph (x % 16) (omega arith))
+
+pub made-hex-below : (k n : ℕ) → made 0 (hex k n) < 16 ^ k
+unfolding hex made
+made-hex-below zero n = omega arith
+made-hex-below (suc k) n =
+    omega (arith, made-append 0 (hex k (n / 16)) (glyph (n % 16) ∷ []), made-hex-below k (n / 16), digit-glyph (n % 16) (omega arith))

@@ -1,65 +1,154 @@
--- The shapes of readable lines: they have 20, 21 or 37 bytes, so that a line of another length is unreadable, and a word on them is read back.
-use mathlib.Core.Path.{_≡_, refl, sym, ap, _∙_}
-use mathlib.Core.Bool.{cond}
+-- The shapes of readable lines: they have 37, 20 or 21 bytes, so that a line of another length is unreadable, and each length leaves one rule.
+-- A word on a line is read back, and a line with a rule's words behind its name is one of the seven of specs/Grammar.antt.
+use mathlib.Core.Path.{_≡_, refl, sym, ap, subst, _∙_}
 use mathlib.Core.List.{List, [], _∷_, _++_, append-nil}
-use Prim.Native.Nat.{ℕ, suc, _+_, _^_, _<_}
+use Prim.Native.Nat.{ℕ, suc, _^_, _<_}
 use native.Mathlib.Omega.{arith}
-use lib.ListN.{length, take, drop, length-append}
+use lib.ListN.{length, take, drop, length-append, length-drop, take-append-drop}
 use lib.Seq.{append-snoc, take-at, drop-at}
 use Rattle.words.specs.declared.answers.Answer.{Answer}
 use Rattle.words.specs.declared.answers.Answer.the-variants.{Refused}
 use Rattle.words.specs.declared.answers.Refusal.the-variants.{Unreadable}
-use Rattle.desk_line.specs.Replies.{same, hex, made, spaced, wordAt, one, two, answerTo, add, sub, mul, neg, half, inv, root}
+use Rattle.desk_line.specs.Replies.{same, hex, made, spaced, wordAt, ofOne, ofTwo, one, two, answerTo, add, sub, mul, neg, half, inv, root}
+use Rattle.desk_line.specs.Grammar.{Line, adds, subs, muls, negs, halves, invs, roots}
 use Rattle.words.proofs.Choice.{by-test}
-use Rattle.desk_line.proofs.Readings.{same-true, same-length, length-hex, made-hex}
-
-length-two : (name : List ℕ) (x y : ℕ) → length (name ++ (spaced x ++ spaced y)) ≡ 34 + length name
-length-two name x y =
-    omega (arith, length-append name (spaced x ++ spaced y), length-append (hex 16 x) (spaced y), length-hex 16 x, length-hex 16 y)
-
-pub length-one : (name : List ℕ) (x : ℕ) → length (name ++ spaced x) ≡ 17 + length name
-length-one name x = omega (arith, length-append name (spaced x), length-hex 16 x)
+use Rattle.desk_line.proofs.Readings.{same-refl, same-true, same-length, length-hex, made-hex, made-hex-below}
 
 -- ---- a line of another length
 
-pub two-other : (name : List ℕ) (f : ℕ → ℕ → Answer) (line : List ℕ) (other : Answer)
-    → (length line ≡ 34 + length name → ⊥) → two name f line other ≡ other
+length-two : (x y : ℕ) → length (spaced x ++ spaced y) ≡ 34
+length-two x y = omega (arith, length-append (hex 16 x) (spaced y), length-hex 16 x, length-hex 16 y)
+
+length-one : (x : ℕ) → length (spaced x) ≡ 17
+length-one x = omega (arith, length-hex 16 x)
+
+pub two-other : (name rest : List ℕ) (other : Answer) → (length rest ≡ 34 → ⊥) → two name rest other ≡ other
 unfolding two
-two-other name f line other h =
-    let x = wordAt (length name) line in
-    let y = wordAt (17 + length name) line in
-    rw (same-length line (name ++ (spaced x ++ spaced y)) (λ e. h (e ∙ length-two name x y)))
+two-other name rest other h =
+    let x = wordAt 0 rest in
+    let y = wordAt 17 rest in
+    rw (same-length rest (spaced x ++ spaced y) (λ e. h (e ∙ length-two x y)))
 
-pub one-other : (name : List ℕ) (f : ℕ → Answer) (line : List ℕ) (other : Answer)
-    → (length line ≡ 17 + length name → ⊥) → one name f line other ≡ other
+pub one-other : (name rest : List ℕ) (other : Answer) → (length rest ≡ 17 → ⊥) → one name rest other ≡ other
 unfolding one
-one-other name f line other h =
-    let x = wordAt (length name) line in
-    rw (same-length line (name ++ spaced x) (λ e. h (e ∙ length-one name x)))
+one-other name rest other h =
+    let x = wordAt 0 rest in
+    rw (same-length rest (spaced x) (λ e. h (e ∙ length-one x)))
 
-pub unreadable : (line : List ℕ) → (length line ≡ 37 → ⊥) → (length line ≡ 20 → ⊥) → (length line ≡ 21 → ⊥) → answerTo line ≡ Refused Unreadable
-unfolding answerTo
-unreadable line h i j = rw (two-other add, two-other sub, two-other mul, one-other neg, one-other half, one-other inv, one-other root)
+module _ (line : List ℕ) where
+  pub unreadable : (length line ≡ 37 → ⊥) → (length line ≡ 20 → ⊥) → (length line ≡ 21 → ⊥) → answerTo line ≡ Refused Unreadable
+  unfolding answerTo
+  unreadable h i j =
+      two-other (take 3 line) (drop 3 line) _ (λ e. h (omega (arith, length-drop 3 line)))
+      ∙ one-other (take 3 line) (drop 3 line) _ (λ e. i (omega (arith, length-drop 3 line)))
+      ∙ one-other (take 4 line) (drop 4 line) _ (λ e. j (omega (arith, length-drop 4 line)))
 
-pub unreadable-long : (line : List ℕ) → 63 < length line → answerTo line ≡ Refused Unreadable
-unreadable-long line h = unreadable line (λ e. omega arith) (λ e. omega arith) (λ e. omega arith)
+  pub unreadable-long : 63 < length line → answerTo line ≡ Refused Unreadable
+  unreadable-long h = unreadable (λ e. omega arith) (λ e. omega arith) (λ e. omega arith)
+
+  pub of-37 : length line ≡ 37 → two (take 3 line) (drop 3 line) (Refused Unreadable) ≡ answerTo line
+  unfolding answerTo
+  of-37 h =
+      rw (
+        one-other (take 4 line) (drop 4 line) (Refused Unreadable) (λ e. omega (arith, length-drop 4 line)),
+        one-other (take 3 line) (drop 3 line) (Refused Unreadable) (λ e. omega (arith, length-drop 3 line)),
+      )
+
+  pub of-20 : length line ≡ 20 → one (take 3 line) (drop 3 line) (Refused Unreadable) ≡ answerTo line
+  unfolding answerTo
+  of-20 h =
+      rw (
+        one-other (take 4 line) (drop 4 line) (Refused Unreadable) (λ e. omega (arith, length-drop 4 line)),
+        two-other (take 3 line) (drop 3 line) _ (λ e. omega (arith, length-drop 3 line)),
+      )
+
+  pub of-21 : length line ≡ 21 → one (take 4 line) (drop 4 line) (Refused Unreadable) ≡ answerTo line
+  unfolding answerTo
+  of-21 h =
+      rw (
+        two-other (take 3 line) (drop 3 line) _ (λ e. omega (arith, length-drop 3 line)),
+        one-other (take 3 line) (drop 3 line) _ (λ e. omega (arith, length-drop 3 line)),
+      )
 
 -- ---- the words on a line
 
--- the word that stands behind the first i bytes
-pub word-after : (front rest : List ℕ) (i x : ℕ) → length front ≡ i → x < 2 ^ 64 → wordAt i (front ++ (spaced x ++ rest)) ≡ x
-word-after front rest i x e h =
+-- the digits that stand behind the first i bytes and a space
+digits-after : (front rest : List ℕ) (i x : ℕ) → length front ≡ i → wordAt i (front ++ (spaced x ++ rest)) ≡ made 0 (hex 16 x)
+digits-after front rest i x e =
     ap (λ (l : List ℕ). made 0 (take 16 (drop (suc i) l))) (sym (append-snoc front 32 (hex 16 x ++ rest)))
     ∙ ap (λ (l : List ℕ). made 0 (take 16 l)) (drop-at (front ++ (32 ∷ [])) (hex 16 x ++ rest) (suc i) (omega (arith, length-append front (32 ∷ []))))
     ∙ ap (made 0) (take-at (hex 16 x) rest 16 (length-hex 16 x))
-    ∙ made-hex 16 x h
 
--- the word at the end
-pub last-word : (front : List ℕ) (i x : ℕ) → length front ≡ i → x < 2 ^ 64 → wordAt i (front ++ spaced x) ≡ x
-last-word front i x e h = rw (append-nil (spaced x)) at (word-after front [] i x e h)
+-- those at the end
+last-digits : (front : List ℕ) (i x : ℕ) → length front ≡ i → wordAt i (front ++ spaced x) ≡ made 0 (hex 16 x)
+last-digits front i x e = rw (append-nil (spaced x)) at (digits-after front [] i x e)
 
--- ---- a choice by the test of two lists: they are the same where the other answer is not chosen
+pub two-reads : (name : List ℕ) (other : Answer) (x y : ℕ) → x < 2 ^ 64 → y < 2 ^ 64 → two name (spaced x ++ spaced y) other ≡ ofTwo name x y
+unfolding two
+two-reads name other x y h i =
+    let rest = spaced x ++ spaced y in
+    let p : wordAt 0 rest ≡ x = digits-after [] (spaced y) 0 x refl ∙ made-hex 16 x h in
+    let q : wordAt 17 rest ≡ y = last-digits (spaced x) 17 y (length-one x) ∙ made-hex 16 y i in
+    rw (p, q, same-refl rest)
 
-pub if-not-other : (l m : List ℕ) (a other : Answer) → (cond (same l m) a other ≡ other → ⊥) → l ≡ m
-if-not-other l m a other =
-    by-test (λ (b : Answer). (b ≡ other → ⊥) → l ≡ m) (same l m) (λ t h. same-true l m t) (λ t h. absurd (h refl))
+pub one-reads : (name : List ℕ) (other : Answer) (x : ℕ) → x < 2 ^ 64 → one name (spaced x) other ≡ ofOne name x
+unfolding one
+one-reads name other x h = rw (last-digits [] 0 x refl, made-hex 16 x h, same-refl (spaced x))
+
+-- ---- a line that is not unreadable
+
+-- the answer a, if it is not `refused 8`, is to one of the seven lines
+abbrev pub Reads : List ℕ → Answer → Type 0
+Reads line a = (a ≡ Refused Unreadable → ⊥) → Line line
+
+two-name : (name : List ℕ) (x y : ℕ) → x < 2 ^ 64 → y < 2 ^ 64 → Reads (name ++ (spaced x ++ spaced y)) (ofTwo name x y)
+unfolding ofTwo
+two-name name x y h i =
+    let C : Answer → Type 0 = Reads (name ++ (spaced x ++ spaced y)) in
+    by-test C (same name add) (λ t k. rw (same-true name add t) (adds x y h i))
+    (λ t. by-test C (same name sub) (λ t k. rw (same-true name sub t) (subs x y h i))
+    (λ t. by-test C (same name mul) (λ t k. rw (same-true name mul t) (muls x y h i))
+    (λ t k. absurd (k refl))))
+
+one-name : (name : List ℕ) (x : ℕ) → x < 2 ^ 64 → Reads (name ++ spaced x) (ofOne name x)
+unfolding ofOne
+one-name name x h =
+    let C : Answer → Type 0 = Reads (name ++ spaced x) in
+    by-test C (same name neg) (λ t k. rw (same-true name neg t) (negs x h))
+    (λ t. by-test C (same name half) (λ t k. rw (same-true name half t) (halves x h))
+    (λ t. by-test C (same name inv) (λ t k. rw (same-true name inv t) (invs x h))
+    (λ t. by-test C (same name root) (λ t k. rw (same-true name root t) (roots x h))
+    (λ t k. absurd (k refl)))))
+
+-- so is a line with a name of n bytes, where one that is left to the answer `other` is
+module _ (n : ℕ) (line : List ℕ) {other : Answer} (f : Reads line other) where
+  pub line-of-two : Reads line (two (take n line) (drop n line) other)
+  unfolding two
+  line-of-two =
+      let name = take n line in
+      let rest = drop n line in
+      let x = wordAt 0 rest in
+      let y = wordAt 17 rest in
+      by-test (Reads line) (same rest (spaced x ++ spaced y))
+      (λ t.
+      let e = same-true rest (spaced x ++ spaced y) t in
+      let p = ap (wordAt 0) e ∙ digits-after [] (spaced y) 0 x refl in
+      let q = ap (wordAt 17) e ∙ last-digits (spaced x) 17 y (length-one x) in
+      let s : name ++ (spaced x ++ spaced y) ≡ line = ap (λ (l : List ℕ). name ++ l) (sym e) ∙ take-append-drop n line in
+      subst (λ (l : List ℕ). Reads l (ofTwo name x y)) s
+      (two-name name x y (omega (arith, p, made-hex-below 16 x)) (omega (arith, q, made-hex-below 16 y))))
+      (λ t. f)
+
+  pub line-of-one : Reads line (one (take n line) (drop n line) other)
+  unfolding one
+  line-of-one =
+      let name = take n line in
+      let rest = drop n line in
+      let x = wordAt 0 rest in
+      by-test (Reads line) (same rest (spaced x))
+      (λ t.
+      let e = same-true rest (spaced x) t in
+      let p = ap (wordAt 0) e ∙ last-digits [] 0 x refl in
+      let s : name ++ spaced x ≡ line = ap (λ (l : List ℕ). name ++ l) (sym e) ∙ take-append-drop n line in
+      subst (λ (l : List ℕ). Reads l (ofOne name x)) s (one-name name x (omega (arith, p, made-hex-below 16 x))))
+      (λ t. f)

@@ -1,8 +1,8 @@
 -- One turn of each loop that reads or writes digits or compares.
-use mathlib.Core.Path.{_≡_, refl, sym, ap, ap₂, subst, _∙_}
+use mathlib.Core.Path.{_≡_, refl, sym, ap, ap₂, _∙_}
 use mathlib.Core.Bool.{Bool, true, false, cond}
 use mathlib.Core.List.{List, [], _∷_, _++_, append-assoc}
-use Prim.Native.Nat.{ℕ, zero, suc, _+_, _-_, _*_, _/_, _%_, _^_, _<_, _≤_}
+use Prim.Native.Nat.{ℕ, suc, _+_, _-_, _*_, _/_, _%_, _^_, _<_, _≤_}
 use native.Mathlib.Nat.{pow-le-pow-right}
 use native.Mathlib.Numerals.{add-one}
 use native.Mathlib.Omega.{arith}
@@ -13,8 +13,8 @@ use lib.Seq.{drop-cons, take-suc, take-all, drop-set-lt, getD-set-same}
 use Rattle.words.specs.declared.answers.Answer.{Answer}
 use Rattle.words.specs.declared.answers.Answer.the-variants.{Word, Refused}
 use Rattle.words.specs.declared.answers.Refusal.the-variants.{Unreadable}
-use Rattle.desk_line.specs.Replies.{same, glyph, digit, hex, made}
-use Rattle.desk_line.proofs.Parts.{read}
+use Rattle.desk_line.specs.Replies.{same, glyph, hex, made}
+use Rattle.desk_line.specs.Promises.{readDigits, readWord}
 use Rattle.desk_line.proofs.Readings.{same-refl, same-true, glyph-below, made-hex}
 
 -- comparing: up to i the bytes are the same, so that the rests decide
@@ -66,11 +66,7 @@ read-next {i} {word} digits d h b e r =
 pub read-room : {i word : ℕ} {digits : List ℕ} → i < 16 → Read i word digits → word < 2 ^ 60
 read-room {i} h r = omega (arith, r .small, pow-le-pow-right {n = 16} (omega arith) {i = i} {j = 15} (omega arith))
 
--- What reading digits answers: the word where it is written so, else that it cannot be read.
-abbrev pub answered : List ℕ → Answer
-answered digits = cond (same digits (hex 16 (made 0 digits))) (Word (made 0 digits)) (Refused Unreadable)
-
-pub read-all : (digits : List ℕ) {i word : ℕ} → i ≡ 16 → length digits ≡ 16 → Read i word digits → Word word ≡ answered digits
+pub read-all : (digits : List ℕ) {i word : ℕ} → i ≡ 16 → length digits ≡ 16 → Read i word digits → Word word ≡ readDigits digits
 read-all digits {word = word} n l q =
     let r : Read 16 word digits = rw n at q in
     let e : hex 16 word ≡ digits = r .writes ∙ take-all 16 digits (omega arith) in
@@ -81,7 +77,7 @@ refuted : (t : Bool) → (t ≡ true → ⊥) → t ≡ false
 refuted true h = absurd (h refl)
 refuted false h = refl
 
-pub read-none-of : (digits : List ℕ) (i : ℕ) → i < 16 → ((d : ℕ) → d < 16 → getD digits i 0 ≡ glyph d → ⊥) → Refused Unreadable ≡ answered digits
+pub read-none-of : (digits : List ℕ) (i : ℕ) → i < 16 → ((d : ℕ) → d < 16 → getD digits i 0 ≡ glyph d → ⊥) → Refused Unreadable ≡ readDigits digits
 read-none-of digits i h n =
     rw (refuted (same digits (hex 16 (made 0 digits))) (λ e. let g = glyph-below 16 (made 0 digits) i h in
     n (g .0) (g .1) (ap (λ (l : List ℕ). getD l i 0) (same-true digits (hex 16 (made 0 digits)) e) ∙ g .2))) refl
@@ -97,12 +93,12 @@ spell-next i rest text {g = g} s l e f =
     ∙ (rw s at f)
 
 -- a word: a space before its digits
-pub no-space : (bytes : List ℕ) → 0 < length bytes → (getD bytes 0 0 ≡ 32 → ⊥) → Refused Unreadable ≡ read bytes
+pub no-space : (bytes : List ℕ) → 0 < length bytes → (getD bytes 0 0 ≡ 32 → ⊥) → Refused Unreadable ≡ readWord bytes
 unfolding same
 no-space (b ∷ bytes) h n = rw (ne-eqb b 32 n) refl
 no-space [] h n = absurd (omega arith)
 
-pub spaced-digits : (bytes : List ℕ) {r : Answer} → length bytes ≡ 17 → getD bytes 0 0 ≡ 32 → r ≡ answered (take 16 (drop 1 bytes)) → r ≡ read bytes
+pub spaced-digits : (bytes : List ℕ) {r : Answer} → length bytes ≡ 17 → getD bytes 0 0 ≡ 32 → r ≡ readDigits (take 16 (drop 1 bytes)) → r ≡ readWord bytes
 unfolding same
 spaced-digits [] h e p = absurd (omega arith)
 spaced-digits (b ∷ bytes) h e p =

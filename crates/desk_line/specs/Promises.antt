@@ -1,12 +1,25 @@
 -- The promises of the contracts.
 use mathlib.Core.Path.{_≡_}
+use mathlib.Core.Bool.{cond}
 use mathlib.Core.List.{List, _++_}
 use Prim.Native.Nat.{ℕ, _-_, _/_, min}
 use lib.ListN.{length, take, drop, replicate}
+use Rattle.words.specs.declared.answers.Answer.{Answer}
+use Rattle.words.specs.declared.answers.Answer.the-variants.{Word, Refused}
+use Rattle.words.specs.declared.answers.Refusal.the-variants.{Unreadable}
 use Rattle.desk_line.specs.declared.desk.Desk.{Desk}
 use Rattle.desk_line.specs.declared.desk.Fed.{Fed}
 use Rattle.desk_line.specs.declared.replies.Reply.{Reply}
+use Rattle.desk_line.specs.Replies.{same, hex, made, spaced, wordAt}
 use Rattle.desk_line.specs.Pieces.{after, written}
+
+-- What 16 bytes are read as: the word that they write in digits, if they do.
+abbrev pub readDigits : List ℕ → Answer
+readDigits bytes = cond (same bytes (hex 16 (made 0 bytes))) (Word (made 0 bytes)) (Refused Unreadable)
+
+-- What 17 bytes are read as: the word that they write, if they do, with a space before it.
+abbrev pub readWord : List ℕ → Answer
+readWord bytes = cond (same bytes (spaced (wordAt 0 bytes))) (Word (wordAt 0 bytes)) (Refused Unreadable)
 
 -- The reply r is the bytes t, with zeros behind them.
 pub record Says (t : List ℕ) (r : Reply) : Type 0 where

@@ -3,7 +3,7 @@ use mathlib.Core.Bool.{Bool, true, false, cond}
 use mathlib.Core.List.{List, [], _∷_, _++_}
 use Prim.Native.Nat.{ℕ, zero, suc, _+_, _-_, _*_, _/_, _%_}
 use lib.Dec.{eqb, ltb}
-use lib.ListN.{length, take, drop}
+use lib.ListN.{take, drop}
 use Rattle.prime.specs.Modulus.{P}
 use Rattle.words.specs.declared.answers.Answer.{Answer}
 use Rattle.words.specs.declared.answers.Answer.the-variants.{Word, Refused}
@@ -41,55 +41,70 @@ made n (b ∷ bs) = made (n * 16 + digit b) bs
 abbrev pub spaced : ℕ → List ℕ
 spaced x = 32 ∷ hex 16 x
 
--- The word that the digits of a line make after a space at the place i.
+-- The number that 16 digits make after a space at the place i.
 abbrev pub wordAt : ℕ → List ℕ → ℕ
-wordAt i line = made 0 (take 16 (drop (suc i) line))
+wordAt i bytes = made 0 (take 16 (drop (suc i) bytes))
 
--- A line that is a name and one word is answered by the rule f; for any other there is the answer `other`.
-unfoldable pub one : List ℕ → (ℕ → Answer) → List ℕ → Answer → Answer
-one name f line other =
-    cond (same line (name ++ spaced (wordAt (length name) line))) (f (wordAt (length name) line)) other
-
--- A line that is a name and two words.
-unfoldable pub two : List ℕ → (ℕ → ℕ → Answer) → List ℕ → Answer → Answer
-two name f line other =
-    cond (same line (name ++ (spaced (wordAt (length name) line) ++ spaced (wordAt (17 + length name) line))))
-    (f (wordAt (length name) line) (wordAt (17 + length name) line))
-    other
-
--- The names, in ASCII.
+-- `add`.
 abbrev pub add : List ℕ
 add = 97 ∷ 100 ∷ 100 ∷ []
 
+-- `sub`.
 abbrev pub sub : List ℕ
 sub = 115 ∷ 117 ∷ 98 ∷ []
 
+-- `mul`.
 abbrev pub mul : List ℕ
 mul = 109 ∷ 117 ∷ 108 ∷ []
 
+-- `neg`.
 abbrev pub neg : List ℕ
 neg = 110 ∷ 101 ∷ 103 ∷ []
 
+-- `half`.
 abbrev pub half : List ℕ
 half = 104 ∷ 97 ∷ 108 ∷ 102 ∷ []
 
+-- `inv`.
 abbrev pub inv : List ℕ
 inv = 105 ∷ 110 ∷ 118 ∷ []
 
+-- `root`.
 abbrev pub root : List ℕ
 root = 114 ∷ 111 ∷ 111 ∷ 116 ∷ []
 
--- The answer to a line: "the held word", or the refusal; "anything else" is refused 8.
+-- "`add`, `sub`, `mul` (two words)": the held word; another name is unreadable.
+unfoldable pub ofTwo : List ℕ → ℕ → ℕ → Answer
+ofTwo name x y =
+    cond (same name add) (Word (addWord x y))
+    (cond (same name sub) (Word (subWord x y))
+    (cond (same name mul) (Word (mulWord x y))
+    (Refused Unreadable)))
+
+-- "`neg`, `half`, `inv`, `root` (one)": the held word or the refusal; another name is unreadable.
+unfoldable pub ofOne : List ℕ → ℕ → Answer
+ofOne name x =
+    cond (same name neg) (Word (negWord x))
+    (cond (same name half) (Word (halveWord x))
+    (cond (same name inv) (cond (eqb (x % P) 0) (Refused InverseOfZero) (Word (inverseWord x)))
+    (cond (same name root) (cond (isSquare x) (Word (rootWord x)) (Refused NoSquareRoot))
+    (Refused Unreadable))))
+
+-- Where two words follow a name, its answer; else the answer `other`.
+unfoldable pub two : List ℕ → List ℕ → Answer → Answer
+two name rest other = cond (same rest (spaced (wordAt 0 rest) ++ spaced (wordAt 17 rest))) (ofTwo name (wordAt 0 rest) (wordAt 17 rest)) other
+
+-- Where one word follows it.
+unfoldable pub one : List ℕ → List ℕ → Answer → Answer
+one name rest other = cond (same rest (spaced (wordAt 0 rest))) (ofOne name (wordAt 0 rest)) other
+
+-- The answer to a line: a name has three letters or four, and "anything else" is refused 8.
 unfoldable pub answerTo : List ℕ → Answer
 answerTo line =
-    two add (λ x y. Word (addWord x y)) line
-    (two sub (λ x y. Word (subWord x y)) line
-    (two mul (λ x y. Word (mulWord x y)) line
-    (one neg (λ x. Word (negWord x)) line
-    (one half (λ x. Word (halveWord x)) line
-    (one inv (λ x. cond (eqb (x % P) 0) (Refused InverseOfZero) (Word (inverseWord x))) line
-    (one root (λ x. cond (isSquare x) (Word (rootWord x)) (Refused NoSquareRoot)) line
-    (Refused Unreadable)))))))
+    two (take 3 line) (drop 3 line)
+    (one (take 3 line) (drop 3 line)
+    (one (take 4 line) (drop 4 line)
+    (Refused Unreadable)))
 
 -- An answer as a line: "the held word so written, or `refused N`", "ended by byte 10".
 unfoldable pub text : Answer → List ℕ

@@ -1,14 +1,10 @@
 // A word as 16 uppercase hex digits, and back.
 ghost use mathlib.Core.Path.{_≡_};
 ghost use mathlib.Core.Logic.{_≢_};
-ghost use mathlib.Core.Bool.{cond};
-ghost use mathlib.Core.List.{_∷_, []};
 ghost use Prim.Native.Nat.{ℕ, _<_, _≤_};
 ghost use lib.ListN.{length};
-ghost use Rattle.words.specs.declared.answers.Answer.the-variants.{Word, Refused};
-ghost use Rattle.words.specs.declared.answers.Refusal.the-variants.{Unreadable};
-ghost use Rattle.desk_line.specs.Replies.{same, hex, made, spaced, wordAt};
 ghost use Rattle.desk_line.specs.Replies.{glyph as Replies·glyph};
+ghost use Rattle.desk_line.specs.Promises.{readDigits, readWord};
 use goldilocks::Answer;
 use goldilocks::Refusal;
 
@@ -38,7 +34,7 @@ fn digit(byte: u8) -> u64
 // The word that 16 digits make, refused where a byte is none.
 fn read_digits(digits: &[u8]) -> Answer
     requires { ⌜ length (now digits) ≡ 16 ⌝ }
-    ensures { λ r. ⌜ r ≡ cond (same (now (digits .entry)) (hex 16 (made 0 (now (digits .entry))))) (Word (made 0 (now (digits .entry)))) (Refused Unreadable) ⌝ }
+    ensures { λ r. ⌜ r ≡ readDigits (now (digits .entry)) ⌝ }
 {
     let mut word = 0;
     let mut i = 0;
@@ -56,7 +52,7 @@ fn read_digits(digits: &[u8]) -> Answer
 // The word on a line: a space and 16 digits.
 pub(crate) fn read_word(bytes: &[u8]) -> Answer
     requires { ⌜ length (now bytes) ≡ 17 ⌝ }
-    ensures { λ r. ⌜ r ≡ cond (same (now (bytes .entry)) (spaced (wordAt 0 (now (bytes .entry))))) (Word (wordAt 0 (now (bytes .entry)))) (Refused Unreadable) ⌝ }
+    ensures { λ r. ⌜ r ≡ readWord (now (bytes .entry)) ⌝ }
 {
     if bytes[0] != b' ' {
         return Answer::Refused(Refusal::Unreadable);

@@ -1,8 +1,9 @@
 // The answer to a line. Its length alone fixes where its words stand.
 ghost use mathlib.Core.Path.{_≡_};
-ghost use Prim.Native.Nat.{_+_, _<_};
 ghost use lib.ListN.{length};
-ghost use Rattle.desk_line.specs.Replies.{answerTo};
+ghost use Rattle.words.specs.declared.answers.Answer.the-variants.{Refused};
+ghost use Rattle.words.specs.declared.answers.Refusal.the-variants.{Unreadable};
+ghost use Rattle.desk_line.specs.Replies.{ofTwo, ofOne, two, one, answerTo};
 ghost use Rattle.desk_line.specs.Replies.{same as Replies·same};
 use super::digits::read_word;
 use goldilocks::Answer;
@@ -32,18 +33,10 @@ fn same(a: &[u8], b: &[u8]) -> bool
     true
 }
 
-// A name of three letters and two words.
-fn with_two_words(line: &[u8]) -> Answer
-    requires { ⌜ length (now line) ≡ 37 ⌝ }
-    ensures { λ r. ⌜ r ≡ answerTo (now (line .entry)) ⌝ }
+// The operations on two words, by name.
+fn of_two(name: &[u8], x: u64, y: u64) -> Answer
+    ensures { λ r. ⌜ r ≡ ofTwo (now (name .entry)) x y ⌝ }
 {
-    let Answer::Word(x) = read_word(&line[3..20]) else {
-        return Answer::Refused(Refusal::Unreadable);
-    };
-    let Answer::Word(y) = read_word(&line[20..37]) else {
-        return Answer::Refused(Refusal::Unreadable);
-    };
-    let name = &line[0..3];
     if same(name, b"add") {
         return Answer::Word(add(x, y));
     }
@@ -56,16 +49,10 @@ fn with_two_words(line: &[u8]) -> Answer
     Answer::Refused(Refusal::Unreadable)
 }
 
-// A name of so many letters and a word.
-fn with_one_word(line: &[u8], letters: usize) -> Answer
-    requires { ⌜ (length (now line) ≡ 17 + letters) × (letters < 20) ⌝ }
-    ensures { λ r. ⌜ r ≡ answerTo (now (line .entry)) ⌝ }
+// The operations on one word, by name.
+fn of_one(name: &[u8], x: u64) -> Answer
+    ensures { λ r. ⌜ r ≡ ofOne (now (name .entry)) x ⌝ }
 {
-    let end = letters + 17;
-    let Answer::Word(x) = read_word(&line[letters..end]) else {
-        return Answer::Refused(Refusal::Unreadable);
-    };
-    let name = &line[..letters];
     if same(name, b"neg") {
         return Answer::Word(neg(x));
     }
@@ -81,14 +68,39 @@ fn with_one_word(line: &[u8], letters: usize) -> Answer
     Answer::Refused(Refusal::Unreadable)
 }
 
+// A name, and what follows it where there is room for two words.
+fn two_words(name: &[u8], rest: &[u8]) -> Answer
+    requires { ⌜ length (now rest) ≡ 34 ⌝ }
+    ensures { λ r. ⌜ r ≡ two (now (name .entry)) (now (rest .entry)) (Refused Unreadable) ⌝ }
+{
+    let Answer::Word(x) = read_word(&rest[0..17]) else {
+        return Answer::Refused(Refusal::Unreadable);
+    };
+    let Answer::Word(y) = read_word(&rest[17..34]) else {
+        return Answer::Refused(Refusal::Unreadable);
+    };
+    of_two(name, x, y)
+}
+
+// A name, and what follows it where there is room for one word.
+fn one_word(name: &[u8], rest: &[u8]) -> Answer
+    requires { ⌜ length (now rest) ≡ 17 ⌝ }
+    ensures { λ r. ⌜ r ≡ one (now (name .entry)) (now (rest .entry)) (Refused Unreadable) ⌝ }
+{
+    let Answer::Word(x) = read_word(rest) else {
+        return Answer::Refused(Refusal::Unreadable);
+    };
+    of_one(name, x)
+}
+
 // The held word that a line asks for, or the refusal: that of its operation, or "unreadable".
 pub fn answer(line: &[u8]) -> Answer
     ensures { λ r. ⌜ r ≡ answerTo (now (line .entry)) ⌝ }
 {
     match line.len() {
-        37 => with_two_words(line),
-        20 => with_one_word(line, 3),
-        21 => with_one_word(line, 4),
+        37 => two_words(&line[0..3], &line[3..37]),
+        20 => one_word(&line[0..3], &line[3..20]),
+        21 => one_word(&line[0..4], &line[4..21]),
         _ => Answer::Refused(Refusal::Unreadable),
     }
 }

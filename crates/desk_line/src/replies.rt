@@ -50,26 +50,8 @@ pub fn spell(answer: Answer) -> Reply
             len: 17,
         },
         Answer::Refused(refusal) => {
-            let number = b'0' + refusal.number() as u8;
-            let text = [
-                b'r',
-                b'e',
-                b'f',
-                b'u',
-                b's',
-                b'e',
-                b'd',
-                b' ',
-                number,
-                10,
-                0,
-                0,
-                0,
-                0,
-                0,
-                0,
-                0,
-            ];
+            let mut text = *b"refused N\n\0\0\0\0\0\0\0";
+            text[8] = b'0' + refusal.number() as u8;
             Reply { text, len: 10 }
         }
     }

@@ -6,65 +6,35 @@ use native.Mathlib.Numerals.{add-one}
 use native.Mathlib.Omega.{arith}
 use borrow.Author.Needs.{needs}
 use lib.ListN.{length, getD, set, length-set}
-use lib.Seq.{paste, paste-zero, paste-suc, length-paste}
+use lib.Seq.{paste, paste-zero, paste-suc}
 use Rattle.desk_line.proofs.desk.put.Statement.{statement}
 use Rattle.desk_line.proofs.desk.put.Tie as tie
 
+-- l is out with the first i bytes of text from `at` on
+record Copied (out text : List ℕ) (at i : ℕ) (l : List ℕ) : Type 0 where
+  room : length l ≡ length out
+  copy : l ≡ paste out at text i
+
+copied-next : {out text l : List ℕ} {at i : ℕ} → at + i < length out → i < length text → Copied out text at i l
+    → Copied out text at (i + 1) (set l (at + i) (getD text i 0))
+copied-next {out} {text} {l} {at} {i} h k c =
+    record { room = length-set l (at + i) _ ∙ c .room; copy = rw (c .copy, add-one i) (paste-suc out at text i 0 h k) }
+
 abbrev Inv-loop : tie.InvT-loop
-Inv-loop text n out₀ at i₀ out i = (i ≤ n) × (length out ≡ length out₀) × (out ≡ paste out₀ at text i)
+Inv-loop text n out₀ at i₀ out i = (i ≤ n) × Copied out₀ text at i out
 
 abbrev μ-loop : tie.MeasureT-loop
 μ-loop text n out₀ at i₀ out i = n - i
 
-paste-next : (out text : List ℕ) (at i : ℕ) {l : List ℕ} → at + i < length out → i < length text → l ≡ paste out at text i
-    → set l (at + i) (getD text i 0) ≡ paste out at text (i + 1)
-paste-next out text at i h k e = rw (e, add-one i) (paste-suc out at text i 0 h k)
-
-loop-holds : tie.Need-loop-holds Inv-loop μ-loop
-loop-holds c = (omega arith, refl, paste-zero (c .args .out .now) (c .args .at) (c .args .text .now))
-
-shared-slice-read-out : tie.Need-shared-slice-read-out Inv-loop μ-loop
-shared-slice-read-out c = omega arith
-
-add-out : tie.Need-add-out Inv-loop μ-loop
-add-out c = omega arith
-
-slice-write-out : tie.Need-slice-write-out Inv-loop μ-loop
-slice-write-out c = omega arith
-
-add-i : tie.Need-add-i Inv-loop μ-loop
-add-i c = omega arith
-
-loop-less : tie.Need-loop-less Inv-loop μ-loop
-loop-less c = omega arith
-
-loop-again : tie.Need-loop-again Inv-loop μ-loop
-loop-again c = (
-  omega arith,
-  rw length-set (c .before .before .loop .inv .1),
-  paste-next (c .before .before .before .args .out .now) (c .before .before .before .args .text .now) _ _ (omega arith) (omega arith) (c .before .before .loop .inv .2),
-)
-
-same-length : tie.Need-same-length Inv-loop μ-loop
-same-length c = omega arith
-
-returns : tie.Need-returns Inv-loop μ-loop
-returns c =
-    c .before .loop .inv .2
-    ∙ ap (paste (c .before .before .args .out .now) (c .before .before .args .at) (c .before .before .args .text .now)) (let e : c .before .loop .i ≡ c .before .before .args .n = omega arith in e)
-
 pub put-spec : {M : Type 1} → statement M
 put-spec =
     tie.close
-    (tie.spec
-    Inv-loop
-    μ-loop
-    loop-holds
-    shared-slice-read-out
-    add-out
-    slice-write-out
-    add-i
-    loop-less
-    loop-again
-    same-length
-    returns)
+    (tie.spec Inv-loop μ-loop
+    (λ c. (omega arith, record { room = refl; copy = paste-zero (c .args .out .now) (c .args .at) (c .args .text .now) }))
+    (λ c. search needs) (λ c. search needs) (λ c. search needs) (λ c. search needs) (λ c. search needs)
+    (λ c. (omega arith, copied-next (search needs) (search needs) (c .before .before .loop .inv .1)))
+    (λ c. search needs)
+    (λ c.
+    let a = c .before .before .args in
+    let e : c .before .loop .i ≡ a .n = omega arith in
+    c .before .loop .inv .1 .copy ∙ ap (paste (a .out .now) (a .at) (a .text .now)) e))

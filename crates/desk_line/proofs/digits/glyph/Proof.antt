@@ -1,3 +1,4 @@
+-- The two ranges of digits.
 use borrow.Author.Needs.{needs}
 use borrow.Author.Tests.{lt-ltb, le-ltb}
 use Rattle.desk_line.specs.Replies.{glyph}

@@ -1,5 +1,5 @@
 -- Either kind of answer, written out; a refusal's number has one digit.
-use mathlib.Core.Path.{_≡_, refl, sym, ap}
+use mathlib.Core.Path.{_≡_, refl, sym}
 use mathlib.Core.List.{List, [], _∷_, _++_, append-nil}
 use Prim.Native.Nat.{ℕ, _≤_}
 use native.Mathlib.Omega.{arith}
@@ -8,7 +8,7 @@ use lib.ListN.{length, length-append}
 use Rattle.words.specs.declared.answers.Refusal.{Refusal}
 use Rattle.words.specs.declared.answers.Refusal.the-variants.{OutOfRange, InverseOfZero, NoSquareRoot, LengthsDiffer, TooMany, WrongBuffer, Above32, Unreadable}
 use Rattle.words.specs.declared.answers.Answer.{Answer}
-use Rattle.words.specs.declared.answers.Answer.the-variants.{Word, Refused}
+use Rattle.words.specs.declared.answers.Answer.the-variants.{Word}
 use Rattle.words.specs.Answers.{number}
 use Rattle.desk_line.specs.Replies.{hex, text}
 use Rattle.desk_line.specs.Promises.{Says}
@@ -32,25 +32,26 @@ word-says w e p =
     let n : length (hex 16 w ++ (10 ∷ [])) ≡ 17 = omega (arith, length-append (hex 16 w) (10 ∷ []), length-hex 16 w) in
     rw e (record { count = sym n; bytes = rw (n, append-nil) p })
 
-cast-number : tie.Need-cast-number
-cast-number c = omega (arith, c .number .ensures, one-digit (c .before .before .answer2 .given .0 .0))
+cast-text : tie.Need-cast-text
+cast-text c = omega (arith, c .number .ensures, one-digit (c .before .before .before .before .answer2 .given .0 .0))
 
-add-number : tie.Need-add-number
-add-number c = omega (arith, c .number .ensures, one-digit (c .before .before .answer2 .given .0 .0))
+add-text : tie.Need-add-text
+add-text c = omega (arith, c .number .ensures, one-digit (c .before .before .before .before .answer2 .given .0 .0))
 
 returns : tie.Need-returns
 returns c = word-says _ (c .before .before .answer .given .1) (c .spell-word .ensures)
 
 returns-2 : tie.Need-returns-2
 unfolding text
-returns-2 c = rw (c .before .before .answer2 .given .1, c .number .ensures) (record { count = refl; bytes = refl })
+returns-2 c = rw (c .before .before .before .before .answer2 .given .1, c .number .ensures) (record { count = refl; bytes = refl })
 
 pub spell-spec : {M : Type 1} → statement M
 spell-spec =
     tie.close
     (tie.spec
     (λ c. search needs) (λ c κs. search needs) (λ c. search needs) (λ c κs. search needs)
-    cast-number
-    add-number
+    cast-text
+    add-text
+    (λ c. search needs)
     returns
     returns-2)

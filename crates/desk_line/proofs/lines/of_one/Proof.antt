@@ -1,0 +1,52 @@
+-- Each name is compared in turn.
+use mathlib.Core.Path.{refl, ap}
+use borrow.Author.Needs.{needs}
+use Rattle.words.specs.declared.answers.Answer.the-variants.{Word}
+use Rattle.desk_line.specs.Replies.{ofOne}
+use Rattle.desk_line.proofs.Parts.{chosen, passed, inverted-is, rooted-is}
+use Rattle.desk_line.proofs.lines.of_one.Statement.{statement}
+use Rattle.desk_line.proofs.lines.of_one.Tie as tie
+
+returns : tie.Need-returns
+unfolding ofOne
+returns c =
+    chosen _ _ (c .before .before .same .ensures) (c .before .if1 .taken) (ap Word (c .neg .ensures .word))
+
+returns-2 : tie.Need-returns-2
+unfolding ofOne
+returns-2 c =
+    passed _ _ (c .before .before .before .before .before .same .ensures) (c .before .before .before .before .if1 .left)
+    (chosen _ _ (c .before .before .same2 .ensures) (c .before .if2 .taken) (ap Word (c .halve .ensures .word)))
+
+returns-3 : tie.Need-returns-3
+unfolding ofOne
+returns-3 c =
+    passed _ _ (c .before .before .before .before .before .before .before .before .same .ensures) (c .before .before .before .before .before .before .before .if1 .left)
+    (passed _ _ (c .before .before .before .before .before .same2 .ensures) (c .before .before .before .before .if2 .left)
+    (chosen _ _ (c .before .before .same3 .ensures) (c .before .if3 .taken) (inverted-is _ (c .try-inverse .ensures))))
+
+returns-4 : tie.Need-returns-4
+unfolding ofOne
+returns-4 c =
+    passed _ _ (c .before .before .before .before .before .before .before .before .before .before .before .same .ensures) (c .before .before .before .before .before .before .before .before .before .before .if1 .left)
+    (passed _ _ (c .before .before .before .before .before .before .before .before .same2 .ensures) (c .before .before .before .before .before .before .before .if2 .left)
+    (passed _ _ (c .before .before .before .before .before .same3 .ensures) (c .before .before .before .before .if3 .left)
+    (chosen _ _ (c .before .before .same4 .ensures) (c .before .if4 .taken) (rooted-is _ (c .try-sqrt .ensures)))))
+
+returns-5 : tie.Need-returns-5
+unfolding ofOne
+returns-5 c =
+    passed _ _ (c .before .before .before .before .before .before .before .before .before .before .same .ensures) (c .before .before .before .before .before .before .before .before .before .if1 .left)
+    (passed _ _ (c .before .before .before .before .before .before .before .same2 .ensures) (c .before .before .before .before .before .before .if2 .left)
+    (passed _ _ (c .before .before .before .before .same3 .ensures) (c .before .before .before .if3 .left)
+    (passed _ _ (c .before .same4 .ensures) (c .if4 .left) refl)))
+
+pub of-one-spec : {M : Type 1} → statement M
+of-one-spec =
+    tie.close
+    (tie.spec
+    (λ c. search needs) (λ c κs. search needs) (λ c κs. search needs) returns
+    (λ c. search needs) (λ c κs. search needs) (λ c κs. search needs) returns-2
+    (λ c. search needs) (λ c κs. search needs) (λ c κs. search needs) returns-3
+    (λ c. search needs) (λ c κs. search needs) (λ c κs. search needs) returns-4
+    returns-5)
