@@ -9,7 +9,7 @@ use lib.Seq.{append-snoc, take-at, drop-at}
 use Rattle.words.specs.declared.answers.Answer.{Answer}
 use Rattle.words.specs.declared.answers.Answer.the-variants.{Refused}
 use Rattle.words.specs.declared.answers.Refusal.the-variants.{Unreadable}
-use Rattle.desk_line.specs.Replies.{same, hex, made, spaced, wordAt, ofOne, ofTwo, one, two, answerTo, add, sub, mul, neg, half, inv, root}
+use Rattle.desk_line.specs.Replies.{same, hex, made, spaced, wordAt, mayRefuse, ofOne, ofTwo, one, two, answerTo, add, sub, mul, neg, half, inv, root}
 use Rattle.desk_line.specs.Grammar.{Line, adds, subs, muls, negs, halves, invs, roots}
 use Rattle.words.proofs.Choice.{by-test}
 use Rattle.desk_line.proofs.Readings.{same-refl, same-true, same-length, length-hex, made-hex, made-hex-below}
@@ -111,7 +111,7 @@ two-name name x y h i =
     (λ t k. absurd (k refl))))
 
 one-name : (name : List ℕ) (x : ℕ) → x < 2 ^ 64 → Reads (name ++ spaced x) (ofOne name x)
-unfolding ofOne
+unfolding ofOne mayRefuse
 one-name name x h =
     let C : Answer → Type 0 = Reads (name ++ spaced x) in
     by-test C (same name neg) (λ t k. rw (same-true name neg t) (negs x h))

@@ -11,7 +11,7 @@ use Rattle.words.specs.declared.answers.Answer.the-variants.{Word, Refused}
 use Rattle.words.specs.declared.answers.Refusal.the-variants.{InverseOfZero, NoSquareRoot, Unreadable}
 use Rattle.words.specs.Words.{addWord, subWord, mulWord, negWord, halveWord}
 use Rattle.roots.specs.Roots.{inverseWord, isSquare, rootWord}
-use Rattle.desk_line.specs.Replies.{same, spaced, ofTwo, ofOne, add, sub, mul, neg, half, inv, root, answerTo, repliesFrom, replies}
+use Rattle.desk_line.specs.Replies.{same, spaced, ofTwo, mayRefuse, ofOne, add, sub, mul, neg, half, inv, root, answerTo, repliesFrom, replies}
 use Rattle.desk_line.specs.Grammar.{Line}
 use Rattle.desk_line.specs.Pieces.{fresh, spoken}
 use Rattle.desk_line.proofs.Readings.{length-hex}
@@ -68,12 +68,12 @@ module _ (x : ℕ) (h : x < 2 ^ 64) where
 
   -- `inv` answers that of the inverse, and zero has none.
   pub inv-line : answerTo (inv ++ spaced x) ≡ cond (eqb (x % P) 0) (Refused InverseOfZero) (Word (inverseWord x))
-  unfolding ofOne same
+  unfolding ofOne mayRefuse same
   inv-line = sym (of-20 (inv ++ spaced x) (omega (arith, length-hex 16 x))) ∙ one-reads inv _ x h
 
   -- `root` answers that of the root, where there is one.
   pub root-line : answerTo (root ++ spaced x) ≡ cond (isSquare x) (Word (rootWord x)) (Refused NoSquareRoot)
-  unfolding ofOne same
+  unfolding ofOne mayRefuse same
   root-line = sym (of-21 (root ++ spaced x) (omega (arith, length-hex 16 x))) ∙ one-reads root _ x h
 
 -- 01: "Anything else .. gives `refused 8`": a line that is answered otherwise is one of the seven.

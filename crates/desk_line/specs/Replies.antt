@@ -81,14 +81,19 @@ ofTwo name x y =
     (cond (same name mul) (Word (mulWord x y))
     (Refused Unreadable)))
 
--- "`neg`, `half`, `inv`, `root` (one)": the held word or the refusal; another name is unreadable.
+-- Of the four names with one word, the two that may refuse; another name is unreadable.
+unfoldable pub mayRefuse : List ℕ → ℕ → Answer
+mayRefuse name x =
+    cond (same name inv) (cond (eqb (x % P) 0) (Refused InverseOfZero) (Word (inverseWord x)))
+    (cond (same name root) (cond (isSquare x) (Word (rootWord x)) (Refused NoSquareRoot))
+    (Refused Unreadable))
+
+-- "`neg`, `half`, `inv`, `root` (one)": the held word or the refusal.
 unfoldable pub ofOne : List ℕ → ℕ → Answer
 ofOne name x =
     cond (same name neg) (Word (negWord x))
     (cond (same name half) (Word (halveWord x))
-    (cond (same name inv) (cond (eqb (x % P) 0) (Refused InverseOfZero) (Word (inverseWord x)))
-    (cond (same name root) (cond (isSquare x) (Word (rootWord x)) (Refused NoSquareRoot))
-    (Refused Unreadable))))
+    (mayRefuse name x))
 
 -- Where two words follow a name, its answer; else the answer `other`.
 unfoldable pub two : List ℕ → List ℕ → Answer → Answer

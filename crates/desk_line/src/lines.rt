@@ -3,7 +3,7 @@ ghost use mathlib.Core.Path.{_≡_};
 ghost use lib.ListN.{length};
 ghost use Rattle.words.specs.declared.answers.Answer.the-variants.{Refused};
 ghost use Rattle.words.specs.declared.answers.Refusal.the-variants.{Unreadable};
-ghost use Rattle.desk_line.specs.Replies.{ofTwo, ofOne, two, one, answerTo};
+ghost use Rattle.desk_line.specs.Replies.{ofTwo, mayRefuse, ofOne, two, one, answerTo};
 ghost use Rattle.desk_line.specs.Replies.{same as Replies·same};
 use super::digits::read_word;
 use goldilocks::Answer;
@@ -49,6 +49,19 @@ fn of_two(name: &[u8], x: u64, y: u64) -> Answer
     Answer::Refused(Refusal::Unreadable)
 }
 
+// Of the operations on one word, those that may refuse.
+fn may_refuse(name: &[u8], x: u64) -> Answer
+    ensures { λ r. ⌜ r ≡ mayRefuse (now (name .entry)) x ⌝ }
+{
+    if same(name, b"inv") {
+        return try_inverse(x);
+    }
+    if same(name, b"root") {
+        return try_sqrt(x);
+    }
+    Answer::Refused(Refusal::Unreadable)
+}
+
 // The operations on one word, by name.
 fn of_one(name: &[u8], x: u64) -> Answer
     ensures { λ r. ⌜ r ≡ ofOne (now (name .entry)) x ⌝ }
@@ -59,13 +72,7 @@ fn of_one(name: &[u8], x: u64) -> Answer
     if same(name, b"half") {
         return Answer::Word(halve(x));
     }
-    if same(name, b"inv") {
-        return try_inverse(x);
-    }
-    if same(name, b"root") {
-        return try_sqrt(x);
-    }
-    Answer::Refused(Refusal::Unreadable)
+    may_refuse(name, x)
 }
 
 // A name, and what follows it where there is room for two words.

@@ -1,9 +1,9 @@
--- Each name is compared in turn.
-use mathlib.Core.Path.{refl, ap}
+-- The names are compared in turn: all before the one that is chosen are passed.
+use mathlib.Core.Path.{ap}
 use borrow.Author.Needs.{needs}
 use Rattle.words.specs.declared.answers.Answer.the-variants.{Word}
 use Rattle.desk_line.specs.Replies.{ofOne}
-use Rattle.desk_line.proofs.Parts.{chosen, passed, inverted-is, rooted-is}
+use Rattle.desk_line.proofs.Parts.{chosen, passed}
 use Rattle.desk_line.proofs.lines.of_one.Statement.{statement}
 use Rattle.desk_line.proofs.lines.of_one.Tie as tie
 
@@ -21,25 +21,8 @@ returns-2 c =
 returns-3 : tie.Need-returns-3
 unfolding ofOne
 returns-3 c =
-    passed _ _ (c .before .before .before .before .before .before .before .before .same .ensures) (c .before .before .before .before .before .before .before .if1 .left)
-    (passed _ _ (c .before .before .before .before .before .same2 .ensures) (c .before .before .before .before .if2 .left)
-    (chosen _ _ (c .before .before .same3 .ensures) (c .before .if3 .taken) (inverted-is _ (c .try-inverse .ensures))))
-
-returns-4 : tie.Need-returns-4
-unfolding ofOne
-returns-4 c =
-    passed _ _ (c .before .before .before .before .before .before .before .before .before .before .before .same .ensures) (c .before .before .before .before .before .before .before .before .before .before .if1 .left)
-    (passed _ _ (c .before .before .before .before .before .before .before .before .same2 .ensures) (c .before .before .before .before .before .before .before .if2 .left)
-    (passed _ _ (c .before .before .before .before .before .same3 .ensures) (c .before .before .before .before .if3 .left)
-    (chosen _ _ (c .before .before .same4 .ensures) (c .before .if4 .taken) (rooted-is _ (c .try-sqrt .ensures)))))
-
-returns-5 : tie.Need-returns-5
-unfolding ofOne
-returns-5 c =
-    passed _ _ (c .before .before .before .before .before .before .before .before .before .before .same .ensures) (c .before .before .before .before .before .before .before .before .before .if1 .left)
-    (passed _ _ (c .before .before .before .before .before .before .before .same2 .ensures) (c .before .before .before .before .before .before .if2 .left)
-    (passed _ _ (c .before .before .before .before .same3 .ensures) (c .before .before .before .if3 .left)
-    (passed _ _ (c .before .same4 .ensures) (c .if4 .left) refl)))
+    passed _ _ (c .before .before .before .before .before .same .ensures) (c .before .before .before .before .if1 .left)
+    (passed _ _ (c .before .before .same2 .ensures) (c .before .if2 .left) (c .may-refuse .ensures))
 
 pub of-one-spec : {M : Type 1} → statement M
 of-one-spec =
@@ -47,6 +30,5 @@ of-one-spec =
     (tie.spec
     (λ c. search needs) (λ c κs. search needs) (λ c κs. search needs) returns
     (λ c. search needs) (λ c κs. search needs) (λ c κs. search needs) returns-2
-    (λ c. search needs) (λ c κs. search needs) (λ c κs. search needs) returns-3
-    (λ c. search needs) (λ c κs. search needs) (λ c κs. search needs) returns-4
-    returns-5)
+    (λ c κs. search needs)
+    returns-3)

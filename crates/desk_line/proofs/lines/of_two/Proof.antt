@@ -1,4 +1,4 @@
--- Each name is compared in turn.
+-- The names are compared in turn: all before the one that is chosen are passed.
 use mathlib.Core.Path.{refl, ap}
 use borrow.Author.Needs.{needs}
 use Rattle.words.specs.declared.answers.Answer.the-variants.{Word}
@@ -21,16 +21,22 @@ returns-2 c =
 returns-3 : tie.Need-returns-3
 unfolding ofTwo
 returns-3 c =
-    passed _ _ (c .before .before .before .before .before .before .before .before .same .ensures) (c .before .before .before .before .before .before .before .if1 .left)
-    (passed _ _ (c .before .before .before .before .before .same2 .ensures) (c .before .before .before .before .if2 .left)
-    (chosen _ _ (c .before .before .same3 .ensures) (c .before .if3 .taken) (ap Word (c .mul .ensures .word))))
+    let s3 = c .before .before in
+    let s2 = s3 .before .before .before in
+    let s1 = s2 .before .before .before in
+    passed _ _ (s1 .same .ensures) (s2 .before .before .if1 .left)
+    (passed _ _ (s2 .same2 .ensures) (s3 .before .before .if2 .left)
+    (chosen _ _ (s3 .same3 .ensures) (c .before .if3 .taken) (ap Word (c .mul .ensures .word))))
 
 returns-4 : tie.Need-returns-4
 unfolding ofTwo
 returns-4 c =
-    passed _ _ (c .before .before .before .before .before .before .before .same .ensures) (c .before .before .before .before .before .before .if1 .left)
-    (passed _ _ (c .before .before .before .before .same2 .ensures) (c .before .before .before .if2 .left)
-    (passed _ _ (c .before .same3 .ensures) (c .if3 .left) refl))
+    let s3 = c .before in
+    let s2 = s3 .before .before .before in
+    let s1 = s2 .before .before .before in
+    passed _ _ (s1 .same .ensures) (s2 .before .before .if1 .left)
+    (passed _ _ (s2 .same2 .ensures) (s3 .before .before .if2 .left)
+    (passed _ _ (s3 .same3 .ensures) (c .if3 .left) refl))
 
 pub of-two-spec : {M : Type 1} → statement M
 of-two-spec =
