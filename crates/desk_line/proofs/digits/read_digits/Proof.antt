@@ -22,7 +22,10 @@ add-word : tie.Need-add-word Inv-loop μ-loop
 add-word c = omega (arith, read-room (search needs) (c .before .before .before .before .loop .inv .1))
 
 loop-again : tie.Need-loop-again Inv-loop μ-loop
-loop-again c = (omega arith, read-next _ _ (search needs) (search needs) (c .before .digit .ensures .0 (search needs)) (c .before .before .before .before .loop .inv .1))
+loop-again c = (
+  omega arith,
+  read-next _ _ (search needs) (search needs) (c .before .digit .ensures .0 (search needs)) (c .before .before .before .before .loop .inv .1),
+)
 
 returns-2 : tie.Need-returns-2 Inv-loop μ-loop
 returns-2 c = read-all _ (omega arith) (c .before .before .before .pre) (c .before .loop .inv .1)

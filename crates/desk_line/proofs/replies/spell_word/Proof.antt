@@ -23,7 +23,11 @@ array-write-text : tie.Need-array-write-text Inv-loop μ-loop
 array-write-text c = omega arith
 
 loop-again : tie.Need-loop-again Inv-loop μ-loop
-loop-again c = (omega arith, rw length-set (c .before .before .loop .inv .1), spell-next _ _ _ (omega arith) (search needs) (c .glyph .ensures) (c .before .before .loop .inv .2))
+loop-again c = (
+  omega arith,
+  rw length-set (c .before .before .loop .inv .1),
+  spell-next _ _ _ (omega arith) (search needs) (c .glyph .ensures) (c .before .before .loop .inv .2),
+)
 
 returns : tie.Need-returns Inv-loop μ-loop
 unfolding hex
