@@ -95,11 +95,11 @@ ofOne name x =
     (cond (same name half) (Word (halveWord x))
     (mayRefuse name x))
 
--- Where two words follow a name, its answer; else the answer `other`.
+-- Where two words follow a name, which is so if they are what follows, written again: the name's answer. Elsewhere the answer `other`.
 unfoldable pub two : List ℕ → List ℕ → Answer → Answer
 two name rest other = cond (same rest (spaced (wordAt 0 rest) ++ spaced (wordAt 17 rest))) (ofTwo name (wordAt 0 rest) (wordAt 17 rest)) other
 
--- Where one word follows it.
+-- The same where one word follows it.
 unfoldable pub one : List ℕ → List ℕ → Answer → Answer
 one name rest other = cond (same rest (spaced (wordAt 0 rest))) (ofOne name (wordAt 0 rest)) other
 
