@@ -7,6 +7,7 @@ ghost use mathlib.Core.Path.{_≡_};
 ghost use Prim.Native.Nat.{_*_, _≤_};
 ghost use lib.ListN.{length};
 ghost use Rattle.io.specs.Counts.{Counts};
+ghost use Rattle.desk_line.specs.Promises.{Feeds};
 use desk_line::Desk;
 use desk_line::Fed;
 use libc::STDIN_FILENO;
@@ -27,9 +28,10 @@ fn write(bytes: &[u8]) -> bool {
     done
 }
 
-// Feeds the desk all of a piece, since each byte of it has 17 bytes of room, and answers with the count of what is to be written.
+// Feeds the desk all of a piece, since each byte of it has 17 bytes of room. What is counted as written is there.
 fn feed_all(desk: Desk, piece: &[u8], out: &mut [u8]) -> Fed
     requires { ⌜ 17 * length (now piece) ≤ length (now out) ⌝ }
+    ensures { λ r. ⌜ Feeds desk (now (piece .entry)) (now (out .entry)) (now (out .exit)) r ⌝ }
     ensures { λ r. ⌜ (r .taken ≡ length (now (piece .entry))) × Counts (r .written) (now (out .exit)) ⌝ }
 {
     desk.feed(piece, out)

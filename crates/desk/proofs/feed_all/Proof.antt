@@ -11,4 +11,4 @@ feed-all-spec =
     (tie.spec
     (λ c κs. search needs)
     (λ c. search needs)
-    (λ c. let f = c .before .before .feed .ensures in (omega (arith, f .taken), (feeds-fits f, feeds-count f))))
+    (λ c. let f = c .before .before .feed .ensures in (f, (omega (arith, f .taken), (feeds-fits f, feeds-count f)))))
