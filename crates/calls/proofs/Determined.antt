@@ -38,7 +38,7 @@ use Rattle.goldilocks.proofs.value.Reads as value
 use Rattle.words.proofs.answers.Refusal.number.Reads as number
 use Rattle.calls.specs.Determined.{Fixes, Determined}
 
--- ---- an answer is told by the numbers that the promises speak of
+-- ---- what coding answers is told by its numbers, as an answer is (Told.antt of `words`)
 
 coded : ℕ → ℕ → Coded
 coded n i = numbered Done (λ r. RefusedAt r i) n

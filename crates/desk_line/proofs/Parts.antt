@@ -1,20 +1,15 @@
 -- A word is read from its part of a line; then the name decides.
 use mathlib.Core.Path.{_≡_, refl, sym, ap, _∙_}
-use mathlib.Core.Bool.{Bool, true, false, not, cond}
+use mathlib.Core.Bool.{Bool, true, false, cond}
 use mathlib.Core.List.{List, [], _∷_, _++_}
-use Prim.Native.Nat.{ℕ, suc, _%_}
+use Prim.Native.Nat.{ℕ, suc}
 use native.Mathlib.Omega.{arith}
-use lib.Dec.{eqb}
 use lib.ListN.{length, take, drop, length-drop}
 use lib.Seq.{take-all, take-take, drop-drop}
-use Rattle.prime.specs.Modulus.{P}
 use Rattle.words.specs.declared.answers.Answer.{Answer}
 use Rattle.words.specs.declared.answers.Answer.the-variants.{Word, Refused}
 use Rattle.words.specs.declared.answers.Refusal.{Refusal}
-use Rattle.words.specs.declared.answers.Refusal.the-variants.{InverseOfZero, NoSquareRoot, Unreadable}
-use Rattle.words.proofs.Told.{answered-is}
-use Rattle.roots.specs.Roots.{inverseWord, isSquare, rootWord}
-use Rattle.roots.specs.Promises.{Inverted, Rooted}
+use Rattle.words.specs.declared.answers.Refusal.the-variants.{Unreadable}
 use Rattle.desk_line.specs.Replies.{same, made, spaced, wordAt, ofTwo, ofOne, two, one}
 use Rattle.desk_line.specs.Promises.{readWord}
 use Rattle.desk_line.proofs.Readings.{same-append, length-hex}
@@ -93,15 +88,3 @@ module _ (a b : Answer) {t u : Bool} (e : t ≡ u) where
 
   pub passed : t ≡ false → {r : Answer} → r ≡ b → r ≡ cond u a b
   passed h p = p ∙ rw (sym e ∙ h) refl
-
--- ---- the two operations that may refuse
-
-negated : (t : Bool) (a b : Answer) → cond (not t) a b ≡ cond t b a
-negated true a b = refl
-negated false a b = refl
-
-pub inverted-is : (x : ℕ) {r : Answer} → Inverted x r → r ≡ cond (eqb (x % P) 0) (Refused InverseOfZero) (Word (inverseWord x))
-inverted-is x h = answered-is (not (eqb (x % P) 0)) InverseOfZero (h .answered) ∙ negated (eqb (x % P) 0) _ _
-
-pub rooted-is : (x : ℕ) {r : Answer} → Rooted x r → r ≡ cond (isSquare x) (Word (rootWord x)) (Refused NoSquareRoot)
-rooted-is x h = answered-is (isSquare x) NoSquareRoot (h .answered)

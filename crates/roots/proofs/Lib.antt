@@ -1,5 +1,6 @@
--- Laws of the definitions. Those above cite Canonical, Generated and SquareRootWord; the rest serves the proofs here.
+-- Laws of the definitions. Those above cite Canonical, Generated, SquareRootWord and Told; the rest serves the proofs here.
 pub mod Canonical
+pub mod Told
 pub mod Exponents
 pub mod Generated
 pub mod SquareRootOrder

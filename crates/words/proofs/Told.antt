@@ -2,7 +2,8 @@
 use mathlib.Core.Path.{_≡_, refl, sym, ap₂, _∙_}
 use mathlib.Core.Bool.{Bool, true, false, cond}
 use mathlib.Core.List.{List, [], _∷_}
-use Prim.Native.Nat.{ℕ, zero, suc}
+use Prim.Native.Nat.{ℕ, zero, suc, _≤_}
+use native.Mathlib.Omega.{arith}
 use lib.ListN.{getD}
 use Rattle.words.specs.declared.answers.Refusal.{Refusal}
 use Rattle.words.specs.declared.answers.Refusal.the-variants.{OutOfRange, InverseOfZero, NoSquareRoot, LengthsDiffer, TooMany, WrongBuffer, Above32, Unreadable}
@@ -47,3 +48,14 @@ pub answered-is : (t : Bool) (k : Refusal) {w e : ℕ} {r : Answer} → Answered
 unfolding told numbered
 answered-is true k h = told-by h
 answered-is false k h = told-by h ∙ sym (numbered-is (Word 0) Refused k)
+
+-- a refusal's number is written by one digit
+pub one-digit : (r : Refusal) → number r ≤ 9
+one-digit OutOfRange = omega arith
+one-digit InverseOfZero = omega arith
+one-digit NoSquareRoot = omega arith
+one-digit LengthsDiffer = omega arith
+one-digit TooMany = omega arith
+one-digit WrongBuffer = omega arith
+one-digit Above32 = omega arith
+one-digit Unreadable = omega arith

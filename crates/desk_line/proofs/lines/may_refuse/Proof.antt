@@ -1,8 +1,9 @@
 -- The names are compared in turn: all before the one that is chosen are passed.
 use mathlib.Core.Path.{refl}
 use borrow.Author.Needs.{needs}
+use Rattle.roots.proofs.Told.{inverted-is, rooted-is}
 use Rattle.desk_line.specs.Replies.{mayRefuse}
-use Rattle.desk_line.proofs.Parts.{chosen, passed, inverted-is, rooted-is}
+use Rattle.desk_line.proofs.Parts.{chosen, passed}
 use Rattle.desk_line.proofs.lines.may_refuse.Statement.{statement}
 use Rattle.desk_line.proofs.lines.may_refuse.Tie as tie
 

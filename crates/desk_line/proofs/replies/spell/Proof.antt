@@ -1,30 +1,18 @@
 -- Either kind of answer, written out; a refusal's number has one digit.
 use mathlib.Core.Path.{_≡_, refl, sym}
 use mathlib.Core.List.{List, [], _∷_, _++_, append-nil}
-use Prim.Native.Nat.{ℕ, _≤_}
+use Prim.Native.Nat.{ℕ}
 use native.Mathlib.Omega.{arith}
 use borrow.Author.Needs.{needs}
 use lib.ListN.{length, length-append}
-use Rattle.words.specs.declared.answers.Refusal.{Refusal}
-use Rattle.words.specs.declared.answers.Refusal.the-variants.{OutOfRange, InverseOfZero, NoSquareRoot, LengthsDiffer, TooMany, WrongBuffer, Above32, Unreadable}
 use Rattle.words.specs.declared.answers.Answer.{Answer}
 use Rattle.words.specs.declared.answers.Answer.the-variants.{Word}
-use Rattle.words.specs.Answers.{number}
+use Rattle.words.proofs.Told.{one-digit}
 use Rattle.desk_line.specs.Replies.{hex, text}
 use Rattle.desk_line.specs.Promises.{Says}
 use Rattle.desk_line.proofs.Readings.{length-hex}
 use Rattle.desk_line.proofs.replies.spell.Statement.{statement}
 use Rattle.desk_line.proofs.replies.spell.Tie as tie
-
-one-digit : (r : Refusal) → number r ≤ 9
-one-digit OutOfRange = omega arith
-one-digit InverseOfZero = omega arith
-one-digit NoSquareRoot = omega arith
-one-digit LengthsDiffer = omega arith
-one-digit TooMany = omega arith
-one-digit WrongBuffer = omega arith
-one-digit Above32 = omega arith
-one-digit Unreadable = omega arith
 
 word-says : (w : ℕ) {a : Answer} {l : List ℕ} → a ≡ Word w → l ≡ hex 16 w ++ (10 ∷ []) → Says (text a) (record { text = l; len = 17 })
 unfolding text
