@@ -1,14 +1,12 @@
 // How an answer goes out where there are numbers only: the refusal's number as the result, and the word or the index by reference.
 ghost use mathlib.Core.Path.{_≡_};
-ghost use Rattle.words.specs.Answers.{refusalOf, wordOf};
-ghost use Rattle.wire.specs.Answers.{refusalOf as codedRefusal, indexOf};
+ghost use Rattle.lichenfrock.specs.Handed.{numberAndWord, numberAndIndex};
 use goldilocks::Answer;
 use goldilocks::Coded;
 
-// The refusal's number, 0 for none. The word is left in `word`: 0 where it is refused.
+// The refusal's number, 0 for none. The word is left in `word`: 0 with a refusal.
 pub(crate) fn hand_word(answer: Answer, word: &mut u64) -> u64
-    ensures { λ r. ⌜ r ≡ refusalOf answer ⌝ }
-    ensures { λ _. ⌜ now (word .exit) ≡ wordOf answer ⌝ }
+    ensures { λ r. ⌜ (r, now (word .exit)) ≡ numberAndWord answer ⌝ }
 {
     match answer {
         Answer::Word(w) => {
@@ -22,10 +20,9 @@ pub(crate) fn hand_word(answer: Answer, word: &mut u64) -> u64
     }
 }
 
-// The refusal's number, 0 for none. The index of the first bad group is left in `index`: 0 for every other outcome.
+// The refusal's number, 0 for none. The index of the first bad group is left in `index`: 0 where there is none.
 pub(crate) fn hand_index(coded: Coded, index: &mut u64) -> u64
-    ensures { λ r. ⌜ r ≡ codedRefusal coded ⌝ }
-    ensures { λ _. ⌜ now (index .exit) ≡ indexOf coded ⌝ }
+    ensures { λ r. ⌜ (r, now (index .exit)) ≡ numberAndIndex coded ⌝ }
 {
     match coded {
         Coded::Done => {

@@ -15,7 +15,7 @@ ghost use Rattle.words.specs.Promises.{Held, Seen, Answered, Summed, Dotted};
 ghost use Rattle.roots.specs.Roots.{generatorWord};
 ghost use Rattle.roots.specs.Promises.{Inverted, Rooted, SeventhRoot};
 ghost use Rattle.wire.specs.Promises.{Encoded, Decoded};
-ghost use Rattle.lichenfrock.specs.Handed.{HandedWord, HandedIndex, sign};
+ghost use Rattle.lichenfrock.specs.Handed.{numberAndWord, numberAndIndex, sign, Handed};
 use goldilocks::Ordering;
 use goldilocks::add;
 use goldilocks::as_canonical_u64;
@@ -106,7 +106,7 @@ pub extern "C" fn lichenfrock_halve(x: u64) -> u64
 // The sum of up to 4,096 words.
 #[no_mangle]
 pub extern "C" fn lichenfrock_sum_array(input: &[u64], word: &mut u64) -> u64
-    ensures { λ r. ⌜ HandedWord (Summed (now (input .entry))) r (now (word .exit)) ⌝ }
+    ensures { λ r. ⌜ Handed numberAndWord (Summed (now (input .entry))) (r, now (word .exit)) ⌝ }
 {
     hand_word(sum_array(input), word)
 }
@@ -114,7 +114,7 @@ pub extern "C" fn lichenfrock_sum_array(input: &[u64], word: &mut u64) -> u64
 // The sum of the products of up to 4,096 pairs.
 #[no_mangle]
 pub extern "C" fn lichenfrock_dot_product(lhs: &[u64], rhs: &[u64], word: &mut u64) -> u64
-    ensures { λ r. ⌜ HandedWord (Dotted (now (lhs .entry)) (now (rhs .entry))) r (now (word .exit)) ⌝ }
+    ensures { λ r. ⌜ Handed numberAndWord (Dotted (now (lhs .entry)) (now (rhs .entry))) (r, now (word .exit)) ⌝ }
 {
     hand_word(dot_product(lhs, rhs), word)
 }
@@ -154,7 +154,7 @@ pub extern "C" fn lichenfrock_div_2exp_u64(x: u64, exp: u64) -> u64
 // The element whose product with x is 1; zero is refused 2.
 #[no_mangle]
 pub extern "C" fn lichenfrock_try_inverse(x: u64, word: &mut u64) -> u64
-    ensures { λ r. ⌜ HandedWord (Inverted x) r (now (word .exit)) ⌝ }
+    ensures { λ r. ⌜ Handed numberAndWord (Inverted x) (r, now (word .exit)) ⌝ }
 {
     hand_word(try_inverse(x), word)
 }
@@ -162,7 +162,7 @@ pub extern "C" fn lichenfrock_try_inverse(x: u64, word: &mut u64) -> u64
 // The square root; refused 3 where no element squares to x.
 #[no_mangle]
 pub extern "C" fn lichenfrock_try_sqrt(x: u64, word: &mut u64) -> u64
-    ensures { λ r. ⌜ HandedWord (Rooted x) r (now (word .exit)) ⌝ }
+    ensures { λ r. ⌜ Handed numberAndWord (Rooted x) (r, now (word .exit)) ⌝ }
 {
     hand_word(try_sqrt(x), word)
 }
@@ -178,7 +178,7 @@ pub extern "C" fn lichenfrock_injective_exp_root_n(x: u64) -> u64
 // The generator of 2^bits elements; refused 7 above 32.
 #[no_mangle]
 pub extern "C" fn lichenfrock_two_adic_generator(bits: u64, word: &mut u64) -> u64
-    ensures { λ r. ⌜ HandedWord (Answered (leb bits 32) 7 (generatorWord bits) (generatorWord bits)) r (now (word .exit)) ⌝ }
+    ensures { λ r. ⌜ Handed numberAndWord (Answered (leb bits 32) 7 (generatorWord bits) (generatorWord bits)) (r, now (word .exit)) ⌝ }
 {
     hand_word(two_adic_generator(bits), word)
 }
@@ -194,7 +194,7 @@ pub extern "C" fn lichenfrock_eq(x: u64, y: u64) -> bool
 // How the canonical form of x compares with that of y: -1, 0 or 1.
 #[no_mangle]
 pub extern "C" fn lichenfrock_cmp(x: u64, y: u64) -> i32
-    ensures { λ r. ⌜ Seen (sign (order (canonical x) (canonical y))) (sign (order (x % P) (y % P))) r ⌝ }
+    ensures { λ r. ⌜ Handed sign (Seen (order (canonical x) (canonical y)) (order (x % P) (y % P))) r ⌝ }
 {
     match cmp(x, y) {
         Ordering::Less => -1,
@@ -214,7 +214,7 @@ pub extern "C" fn lichenfrock_is_zero(x: u64) -> bool
 // The low k bits of the canonical form; refused 7 above 32.
 #[no_mangle]
 pub extern "C" fn lichenfrock_slot(x: u64, k: u64, word: &mut u64) -> u64
-    ensures { λ r. ⌜ HandedWord (Answered (leb k 32) 7 (canonical x % 2 ^ k) (x % P % 2 ^ k)) r (now (word .exit)) ⌝ }
+    ensures { λ r. ⌜ Handed numberAndWord (Answered (leb k 32) 7 (canonical x % 2 ^ k) (x % P % 2 ^ k)) (r, now (word .exit)) ⌝ }
 {
     hand_word(slot(x, k), word)
 }
@@ -222,7 +222,7 @@ pub extern "C" fn lichenfrock_slot(x: u64, k: u64, word: &mut u64) -> u64
 // Words into a lent buffer of 8 bytes each, canonical and little-endian.
 #[no_mangle]
 pub extern "C" fn lichenfrock_encode(words: &[u64], bytes: &mut [u8], index: &mut u64) -> u64
-    ensures { λ r. ⌜ HandedIndex (Encoded (now (words .entry)) (now (bytes .entry)) (now (bytes .exit))) r (now (index .exit)) ⌝ }
+    ensures { λ r. ⌜ Handed numberAndIndex (Encoded (now (words .entry)) (now (bytes .entry)) (now (bytes .exit))) (r, now (index .exit)) ⌝ }
 {
     hand_index(encode(words, bytes), index)
 }
@@ -230,7 +230,7 @@ pub extern "C" fn lichenfrock_encode(words: &[u64], bytes: &mut [u8], index: &mu
 // The words of such a buffer; none is written unless every group is below P.
 #[no_mangle]
 pub extern "C" fn lichenfrock_decode(bytes: &[u8], words: &mut [u64], index: &mut u64) -> u64
-    ensures { λ r. ⌜ HandedIndex (Decoded (now (bytes .entry)) (now (words .entry)) (now (words .exit))) r (now (index .exit)) ⌝ }
+    ensures { λ r. ⌜ Handed numberAndIndex (Decoded (now (bytes .entry)) (now (words .entry)) (now (words .exit))) (r, now (index .exit)) ⌝ }
 {
     hand_index(decode(bytes, words), index)
 }
@@ -246,7 +246,7 @@ pub extern "C" fn lichenfrock_as_canonical_u64(x: u64) -> u64
 // A word below P; any other is refused 1.
 #[no_mangle]
 pub extern "C" fn lichenfrock_from_canonical_checked_u64(x: u64, word: &mut u64) -> u64
-    ensures { λ r. ⌜ HandedWord (Answered (ltb x P) 1 x (x % P)) r (now (word .exit)) ⌝ }
+    ensures { λ r. ⌜ Handed numberAndWord (Answered (ltb x P) 1 x (x % P)) (r, now (word .exit)) ⌝ }
 {
     hand_word(from_canonical_checked_u64(x), word)
 }
@@ -254,7 +254,7 @@ pub extern "C" fn lichenfrock_from_canonical_checked_u64(x: u64, word: &mut u64)
 // A number from -(2^63 - 2^31) to 2^63 - 2^31; any other is refused 1.
 #[no_mangle]
 pub extern "C" fn lichenfrock_from_canonical_checked_i64(int: i64, word: &mut u64) -> u64
-    ensures { λ r. ⌜ HandedWord (Answered (inRange int) 1 (fromI64Word int) (residue int)) r (now (word .exit)) ⌝ }
+    ensures { λ r. ⌜ Handed numberAndWord (Answered (inRange int) 1 (fromI64Word int) (residue int)) (r, now (word .exit)) ⌝ }
 {
     hand_word(from_canonical_checked_i64(int), word)
 }

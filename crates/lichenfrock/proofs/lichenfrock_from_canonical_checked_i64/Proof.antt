@@ -18,8 +18,7 @@ returns c =
           subst (λ (z : ℤ). Answered (inRange z) 1 (fromI64Word z) (residue z) (c .before .before .from-canonical-checked-i64 .result))
           (toZ-ofZ w64 _ (c .before .before .before .fits .int))
           (c .before .before .from-canonical-checked-i64 .ensures);
-      refusal = c .hand-word .ensures .0;
-      left = c .hand-word .ensures .1;
+      handed = c .hand-word .ensures;
     }
 
 pub lichenfrock-from-canonical-checked-i64-spec : {M : Type 1} → statement M
