@@ -121,10 +121,10 @@ pub extern "C" fn lichenfrock_dot_product(lhs: &[u64], rhs: &[u64], word: &mut u
 
 // A signed number: n, or P + n.
 #[no_mangle]
-pub extern "C" fn lichenfrock_from_i64(int: i64) -> u64
-    ensures { λ r. ⌜ Held (fromI64Word int) (residue int) r ⌝ }
+pub extern "C" fn lichenfrock_from_i64(n: i64) -> u64
+    ensures { λ r. ⌜ Held (fromI64Word n) (residue n) r ⌝ }
 {
-    from_i64(int)
+    from_i64(n)
 }
 
 // The limbs lo and hi, canonical.
@@ -253,10 +253,10 @@ pub extern "C" fn lichenfrock_from_canonical_checked_u64(x: u64, word: &mut u64)
 
 // A number from -(2^63 - 2^31) to 2^63 - 2^31; any other is refused 1.
 #[no_mangle]
-pub extern "C" fn lichenfrock_from_canonical_checked_i64(int: i64, word: &mut u64) -> u64
-    ensures { λ r. ⌜ Handed numberAndWord (Answered (inRange int) 1 (fromI64Word int) (residue int)) (r, now (word .exit)) ⌝ }
+pub extern "C" fn lichenfrock_from_canonical_checked_i64(n: i64, word: &mut u64) -> u64
+    ensures { λ r. ⌜ Handed numberAndWord (Answered (inRange n) 1 (fromI64Word n) (residue n)) (r, now (word .exit)) ⌝ }
 {
-    hand_word(from_canonical_checked_i64(int), word)
+    hand_word(from_canonical_checked_i64(n), word)
 }
 
 // The raw word, as it is held.

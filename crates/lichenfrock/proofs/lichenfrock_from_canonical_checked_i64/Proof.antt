@@ -16,7 +16,7 @@ returns c =
       answer = c .before .before .from-canonical-checked-i64 .result;
       promised =
           subst (λ (z : ℤ). Answered (inRange z) 1 (fromI64Word z) (residue z) (c .before .before .from-canonical-checked-i64 .result))
-          (toZ-ofZ w64 _ (c .before .before .before .fits .int))
+          (toZ-ofZ w64 _ (c .before .before .before .fits .n))
           (c .before .before .from-canonical-checked-i64 .ensures);
       handed = c .hand-word .ensures;
     }

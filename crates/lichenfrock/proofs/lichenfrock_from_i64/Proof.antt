@@ -11,7 +11,7 @@ use Rattle.lichenfrock.proofs.lichenfrock_from_i64.Statement.{statement
 use Rattle.lichenfrock.proofs.lichenfrock_from_i64.Tie as tie
 
 returns : tie.Need-returns
-returns c = subst (λ (z : ℤ). Held (fromI64Word z) (residue z) (c .from-i64 .result)) (toZ-ofZ w64 _ (c .before .fits .int)) (c .from-i64 .ensures)
+returns c = subst (λ (z : ℤ). Held (fromI64Word z) (residue z) (c .from-i64 .result)) (toZ-ofZ w64 _ (c .before .fits .n)) (c .from-i64 .ensures)
 
 pub lichenfrock-from-i64-spec : {M : Type 1} → statement M
 lichenfrock-from-i64-spec = tie.close (tie.spec (λ c κs. search needs) returns)
