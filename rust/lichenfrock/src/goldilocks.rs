@@ -20,6 +20,7 @@ use crate::Refusal;
 pub struct Goldilocks(u64);
 
 /// The answer that a refusable operation leaves.
+#[inline]
 fn answered(ask: impl FnOnce(&mut u64) -> u64) -> Result<u64, Refusal> {
     let mut word = 0;
     let number = ask(&mut word);
@@ -27,6 +28,7 @@ fn answered(ask: impl FnOnce(&mut u64) -> u64) -> Result<u64, Refusal> {
 }
 
 /// The low and the high limb.
+#[inline]
 fn limbs(int: u128) -> (u64, u64) {
     (int as u64, (int >> 64) as u64)
 }
@@ -61,6 +63,7 @@ impl Goldilocks {
     ///
     /// assert_eq!(Goldilocks::reduce128(u128::MAX), Goldilocks::from_u128(u128::MAX));
     /// ```
+    #[inline]
     pub fn reduce128(x: u128) -> Self {
         let (lo, hi) = limbs(x);
         Self(raw::lichenfrock_reduce128(lo, hi))
@@ -73,6 +76,7 @@ impl Goldilocks {
     ///
     /// assert_eq!(Goldilocks::new(1 << 48).square(), Goldilocks::NEG_ONE);
     /// ```
+    #[inline]
     pub fn square(self) -> Self {
         Self(raw::lichenfrock_square(self.0))
     }
@@ -84,6 +88,7 @@ impl Goldilocks {
     ///
     /// assert_eq!(Goldilocks::ONE.halve() + Goldilocks::ONE.halve(), Goldilocks::ONE);
     /// ```
+    #[inline]
     pub fn halve(self) -> Self {
         Self(raw::lichenfrock_halve(self.0))
     }
@@ -97,6 +102,7 @@ impl Goldilocks {
     /// assert_eq!(Goldilocks::sum_array(&shard[1..]), Ok(Goldilocks::new(8_192)));
     /// assert_eq!(Goldilocks::sum_array(&shard), Err(Refusal::TooMany));
     /// ```
+    #[inline]
     pub fn sum_array(input: &[Self]) -> Result<Self, Refusal> {
         // SAFETY: the pointer and the length are those of a slice of words.
         answered(|word| unsafe { raw::lichenfrock_sum_array(input.as_ptr().cast(), input.len(), word) }).map(Self)
@@ -112,6 +118,7 @@ impl Goldilocks {
     /// assert_eq!(Goldilocks::dot_product(&weights, &words), Ok(Goldilocks::new(42)));
     /// assert_eq!(Goldilocks::dot_product(&weights, &words[1..]), Err(Refusal::LengthsDiffer));
     /// ```
+    #[inline]
     pub fn dot_product(lhs: &[Self], rhs: &[Self]) -> Result<Self, Refusal> {
         // SAFETY: each pointer and the length after it are those of a slice of words.
         answered(|word| unsafe { raw::lichenfrock_dot_product(lhs.as_ptr().cast(), lhs.len(), rhs.as_ptr().cast(), rhs.len(), word) }).map(Self)
@@ -124,6 +131,7 @@ impl Goldilocks {
     ///
     /// assert_eq!(Goldilocks::from_i64(-1), Goldilocks::NEG_ONE);
     /// ```
+    #[inline]
     pub fn from_i64(n: i64) -> Self {
         Self(raw::lichenfrock_from_i64(n))
     }
@@ -135,6 +143,7 @@ impl Goldilocks {
     ///
     /// assert_eq!(Goldilocks::from_u128(1 << 96), Goldilocks::NEG_ONE);
     /// ```
+    #[inline]
     pub fn from_u128(int: u128) -> Self {
         let (lo, hi) = limbs(int);
         Self(raw::lichenfrock_from_u128(lo, hi))
@@ -148,6 +157,7 @@ impl Goldilocks {
     /// assert_eq!(Goldilocks::ONE.mul_2exp_u64(96), Goldilocks::NEG_ONE);
     /// assert_eq!(Goldilocks::ONE.mul_2exp_u64(192), Goldilocks::ONE);
     /// ```
+    #[inline]
     pub fn mul_2exp_u64(self, exp: u64) -> Self {
         Self(raw::lichenfrock_mul_2exp_u64(self.0, exp))
     }
@@ -159,6 +169,7 @@ impl Goldilocks {
     ///
     /// assert_eq!(Goldilocks::new(40).div_2exp_u64(3), Goldilocks::new(5));
     /// ```
+    #[inline]
     pub fn div_2exp_u64(self, exp: u64) -> Self {
         Self(raw::lichenfrock_div_2exp_u64(self.0, exp))
     }
@@ -173,6 +184,7 @@ impl Goldilocks {
     /// assert_eq!(Goldilocks::ZERO.try_inverse(), Err(Refusal::InverseOfZero));
     /// # Ok::<(), Refusal>(())
     /// ```
+    #[inline]
     pub fn try_inverse(self) -> Result<Self, Refusal> {
         answered(|word| raw::lichenfrock_try_inverse(self.0, word)).map(Self)
     }
@@ -185,6 +197,7 @@ impl Goldilocks {
     /// assert_eq!(Goldilocks::NEG_ONE.try_sqrt(), Ok(Goldilocks::new(1 << 48)));
     /// assert_eq!(Goldilocks::new(7).try_sqrt(), Err(Refusal::NoSquareRoot));
     /// ```
+    #[inline]
     pub fn try_sqrt(self) -> Result<Self, Refusal> {
         answered(|word| raw::lichenfrock_try_sqrt(self.0, word)).map(Self)
     }
@@ -197,6 +210,7 @@ impl Goldilocks {
     /// let root = Goldilocks::TWO.injective_exp_root_n();
     /// assert_eq!(root.square().square() * root.square() * root, Goldilocks::TWO);
     /// ```
+    #[inline]
     pub fn injective_exp_root_n(self) -> Self {
         Self(raw::lichenfrock_injective_exp_root_n(self.0))
     }
@@ -209,6 +223,7 @@ impl Goldilocks {
     /// assert_eq!(Goldilocks::two_adic_generator(1), Ok(Goldilocks::NEG_ONE));
     /// assert_eq!(Goldilocks::two_adic_generator(33), Err(Refusal::Above32));
     /// ```
+    #[inline]
     pub fn two_adic_generator(bits: u64) -> Result<Self, Refusal> {
         answered(|word| raw::lichenfrock_two_adic_generator(bits, word)).map(Self)
     }
@@ -220,6 +235,7 @@ impl Goldilocks {
     ///
     /// assert!((-Goldilocks::ZERO).is_zero());
     /// ```
+    #[inline]
     pub fn is_zero(self) -> bool {
         raw::lichenfrock_is_zero(self.0)
     }
@@ -233,6 +249,7 @@ impl Goldilocks {
     /// assert_eq!(Goldilocks::new(0x1234).slot(8), Ok(0x34));
     /// assert_eq!(Goldilocks::ONE.slot(33), Err(Refusal::Above32));
     /// ```
+    #[inline]
     pub fn slot(self, k: u64) -> Result<u64, Refusal> {
         answered(|word| raw::lichenfrock_slot(self.0, k, word))
     }
@@ -249,6 +266,7 @@ impl Goldilocks {
     /// assert_eq!(Goldilocks::encode(&[Goldilocks::ONE], &mut bytes), Err(Refusal::WrongBuffer));
     /// # Ok::<(), Refusal>(())
     /// ```
+    #[inline]
     pub fn encode(words: &[Self], bytes: &mut [u8]) -> Result<(), Refusal> {
         let mut index = 0;
         // SAFETY: each pointer and the length after it are those of a slice, and only one borrow may write to the second.
@@ -268,6 +286,7 @@ impl Goldilocks {
     /// assert_eq!(Goldilocks::decode(&bytes, &mut words), Err(Refusal::OutOfRange { index: 1 }));
     /// assert_eq!(words, [Goldilocks::TWO; 2]);
     /// ```
+    #[inline]
     pub fn decode(bytes: &[u8], words: &mut [Self]) -> Result<(), Refusal> {
         let mut index = 0;
         // SAFETY: each pointer and the length after it are those of a slice, and only one borrow may write to the second.
@@ -282,6 +301,7 @@ impl Goldilocks {
     ///
     /// assert_eq!(Goldilocks::new(Goldilocks::ORDER_U64).to_bytes(), [0; 8]);
     /// ```
+    #[inline]
     pub fn to_bytes(self) -> [u8; 8] {
         self.as_canonical_u64().to_le_bytes()
     }
@@ -294,6 +314,7 @@ impl Goldilocks {
     /// assert_eq!(Goldilocks::from_bytes([7, 0, 0, 0, 0, 0, 0, 0]), Ok(Goldilocks::new(7)));
     /// assert_eq!(Goldilocks::from_bytes([0xFF; 8]).unwrap_err().number(), 1);
     /// ```
+    #[inline]
     pub fn from_bytes(bytes: [u8; 8]) -> Result<Self, Refusal> {
         Self::from_canonical_checked_u64(u64::from_le_bytes(bytes))
     }
@@ -305,6 +326,7 @@ impl Goldilocks {
     ///
     /// assert_eq!((-Goldilocks::ZERO).as_canonical_u64(), 0);
     /// ```
+    #[inline]
     pub fn as_canonical_u64(self) -> u64 {
         raw::lichenfrock_as_canonical_u64(self.0)
     }
@@ -317,6 +339,7 @@ impl Goldilocks {
     /// assert_eq!(Goldilocks::from_canonical_checked_u64(5), Ok(Goldilocks::new(5)));
     /// assert_eq!(Goldilocks::from_canonical_checked_u64(Goldilocks::ORDER_U64), Err(Refusal::OutOfRange { index: 0 }));
     /// ```
+    #[inline]
     pub fn from_canonical_checked_u64(x: u64) -> Result<Self, Refusal> {
         answered(|word| raw::lichenfrock_from_canonical_checked_u64(x, word)).map(Self)
     }
@@ -329,6 +352,7 @@ impl Goldilocks {
     /// assert_eq!(Goldilocks::from_canonical_checked_i64(-1), Ok(Goldilocks::NEG_ONE));
     /// assert_eq!(Goldilocks::from_canonical_checked_i64(i64::MAX), Err(Refusal::OutOfRange { index: 0 }));
     /// ```
+    #[inline]
     pub fn from_canonical_checked_i64(n: i64) -> Result<Self, Refusal> {
         answered(|word| raw::lichenfrock_from_canonical_checked_i64(n, word)).map(Self)
     }
@@ -343,6 +367,7 @@ impl Goldilocks {
     /// assert_eq!(zero, Goldilocks::ZERO);
     /// assert_eq!(zero.held_word(), Goldilocks::ORDER_U64);
     /// ```
+    #[inline]
     pub fn held_word(self) -> u64 {
         raw::lichenfrock_value(self.0)
     }
