@@ -13,7 +13,20 @@ use crate::Refusal;
 ///
 /// let zero = Goldilocks::new(Goldilocks::ORDER_U64);
 /// assert_eq!(zero, Goldilocks::ZERO);
-/// assert_eq!(zero.to_string(), "0");
+/// assert!(zero < Goldilocks::ONE);
+/// assert_eq!(format!("{zero} {zero:?}"), "0 0");
+/// ```
+///
+/// `+`, `-`, `*`, `+=`, `-=`, `*=` and the negative are the field's, and so are the sum and the product of an iterator.
+///
+/// ```
+/// use lichenfrock::Goldilocks;
+///
+/// let mut place = Goldilocks::TWO - Goldilocks::new(5);
+/// assert_eq!(place, -Goldilocks::new(3));
+/// place *= place;
+/// place += Goldilocks::ONE;
+/// assert_eq!(place, (1..=4).map(Goldilocks::new).sum());
 /// ```
 #[derive(Clone, Copy, Default)]
 #[repr(transparent)] // So that a slice of elements is a slice of words, and is lent as it stands.

@@ -9,13 +9,8 @@ const PREFIX: &str = "lichenfrock_";
 fn text(path: &str) -> String {
     let path = format!("{}/../../{path}", env!("CARGO_MANIFEST_DIR"));
     let text = fs::read_to_string(&path).unwrap_or_else(|error| panic!("{path}: {error}"));
-    let lines: Vec<&str> = text.lines().map(|line| line.split("//").next().unwrap().trim()).collect();
-    let pieces: Vec<String> = lines
-        .join(" ")
-        .split("/*")
-        .map(|piece| piece.split_once("*/").map_or(piece, |(_, code)| code).to_string())
-        .collect();
-    pieces.concat()
+    let code = text.lines().map(|line| line.split("//").next().unwrap().trim()).collect::<Vec<_>>().join(" ");
+    code.split("/*").map(|piece| piece.split_once("*/").map_or(piece, |(_, code)| code)).collect()
 }
 
 /// What stands between `start` and the nearest `end`, each time.

@@ -5,32 +5,30 @@ use crate::raw;
 use std::iter::{Product, Sum};
 use std::ops::{Add, AddAssign, Mul, MulAssign, Neg, Sub, SubAssign};
 
-impl Add for Goldilocks {
-    type Output = Self;
+/// An operator and its assigning form, by a function of the library.
+macro_rules! operator {
+    ($Operator:ident $operator:ident, $Assigning:ident $assigning:ident, $function:ident) => {
+        impl $Operator for Goldilocks {
+            type Output = Self;
 
-    #[inline]
-    fn add(self, rhs: Self) -> Self {
-        Self(raw::lichenfrock_add(self.0, rhs.0))
-    }
+            #[inline]
+            fn $operator(self, rhs: Self) -> Self {
+                Self(raw::$function(self.0, rhs.0))
+            }
+        }
+
+        impl $Assigning for Goldilocks {
+            #[inline]
+            fn $assigning(&mut self, rhs: Self) {
+                *self = $Operator::$operator(*self, rhs);
+            }
+        }
+    };
 }
 
-impl Sub for Goldilocks {
-    type Output = Self;
-
-    #[inline]
-    fn sub(self, rhs: Self) -> Self {
-        Self(raw::lichenfrock_sub(self.0, rhs.0))
-    }
-}
-
-impl Mul for Goldilocks {
-    type Output = Self;
-
-    #[inline]
-    fn mul(self, rhs: Self) -> Self {
-        Self(raw::lichenfrock_mul(self.0, rhs.0))
-    }
-}
+operator!(Add add, AddAssign add_assign, lichenfrock_add);
+operator!(Sub sub, SubAssign sub_assign, lichenfrock_sub);
+operator!(Mul mul, MulAssign mul_assign, lichenfrock_mul);
 
 impl Neg for Goldilocks {
     type Output = Self;
@@ -38,27 +36,6 @@ impl Neg for Goldilocks {
     #[inline]
     fn neg(self) -> Self {
         Self(raw::lichenfrock_neg(self.0))
-    }
-}
-
-impl AddAssign for Goldilocks {
-    #[inline]
-    fn add_assign(&mut self, rhs: Self) {
-        *self = *self + rhs;
-    }
-}
-
-impl SubAssign for Goldilocks {
-    #[inline]
-    fn sub_assign(&mut self, rhs: Self) {
-        *self = *self - rhs;
-    }
-}
-
-impl MulAssign for Goldilocks {
-    #[inline]
-    fn mul_assign(&mut self, rhs: Self) {
-        *self = *self * rhs;
     }
 }
 
