@@ -35,6 +35,8 @@ fn held_words() {
     assert_eq!(word(P).try_sqrt().map(Goldilocks::held_word), Ok(0), "W11");
     assert_eq!(Goldilocks::from_i64(i64::MIN).held_word(), 0x7FFF_FFFF_0000_0001, "W13");
     assert_eq!(Goldilocks::reduce128(u128::MAX).held_word(), 0xFFFF_FFFE_0000_0000);
+    assert_eq!(Goldilocks::reduce128(P.into()).held_word(), P);
+    assert_eq!(Goldilocks::from_u128(P.into()).held_word(), 0);
     assert_eq!(Goldilocks::TWO.try_inverse().map(Goldilocks::held_word), Ok(0x7FFF_FFFF_8000_0001));
     assert_eq!(Goldilocks::from_canonical_checked_i64(END).map(Goldilocks::held_word), Ok(END as u64));
     assert_eq!(
