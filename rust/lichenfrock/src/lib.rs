@@ -20,6 +20,11 @@
 //! # Ok(())
 //! # }
 //! ```
+//!
+//! # The archive
+//!
+//! The build links `liblichenfrock.a`. It takes it from the folder that the variable `LICHENFROCK_LIB_DIR` names; without the variable, `rt` of the Rattle
+//! kit proves and compiles it; and without `rt`, the one that was made earlier in this repository serves, with a warning.
 
 mod goldilocks;
 mod raw;
