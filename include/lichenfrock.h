@@ -5,7 +5,7 @@
  *
  * Every function takes any numbers and any lengths. Where it can be refused, the result is the number of the refusal (0 for none) and the word or the
  * index goes out by the last pointer: the word is 0 with a refusal, and the index is 0 but where a group of bytes is not canonical. A refusal leaves
- * every lent buffer as it was. What C has to see to is that each pointer is not NULL (nor where its length is 0), is aligned for its type, points to
+ * every lent buffer as it was. What C has to see to is that each pointer is not NULL, even where its length is 0, is aligned for its type, points to
  * as many values as its length says, and that nothing which is written to overlaps anything else that is handed over.
  *
  * Order and words are those of document 01; crates/lichenfrock/src/lib.rt has the contract of each function.
