@@ -114,6 +114,12 @@ fn of_lists() {
         same(list[..n].iter().copied().sum(), total);
         same(Goldilocks::dot_product(&list[..n], &list[1..=n]).unwrap(), pairs);
     }
+    for three in list.windows(3) {
+        for n in 0..=3 {
+            let sum: Goldilocks = three[..n].iter().sum();
+            assert_eq!(Goldilocks::sum_array(&three[..n]).map(Goldilocks::held_word), Ok(sum.held_word()));
+        }
+    }
     same(
         list[1..8].iter().product(),
         words[1..8].iter().fold(1, |product, &x| product * u128::from(x) % P),

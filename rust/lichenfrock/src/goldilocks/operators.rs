@@ -39,27 +39,22 @@ impl Neg for Goldilocks {
     }
 }
 
-/// Adds one by one, so that there is no limit and no refusal; [`Goldilocks::sum_array`] is the quicker one for a slice.
-impl Sum for Goldilocks {
-    fn sum<I: Iterator<Item = Self>>(iter: I) -> Self {
-        iter.fold(Self::ZERO, Add::add)
-    }
+/// The sum or the product of an iterator, one by one, so that there is no limit and no refusal.
+macro_rules! fold {
+    ($Fold:ident $fold:ident, $start:ident, $operator:path) => {
+        impl $Fold for Goldilocks {
+            fn $fold<I: Iterator<Item = Self>>(iter: I) -> Self {
+                iter.fold(Self::$start, $operator)
+            }
+        }
+
+        impl<'a> $Fold<&'a Goldilocks> for Goldilocks {
+            fn $fold<I: Iterator<Item = &'a Self>>(iter: I) -> Self {
+                iter.copied().fold(Self::$start, $operator)
+            }
+        }
+    };
 }
 
-impl<'a> Sum<&'a Goldilocks> for Goldilocks {
-    fn sum<I: Iterator<Item = &'a Self>>(iter: I) -> Self {
-        iter.copied().sum()
-    }
-}
-
-impl Product for Goldilocks {
-    fn product<I: Iterator<Item = Self>>(iter: I) -> Self {
-        iter.fold(Self::ONE, Mul::mul)
-    }
-}
-
-impl<'a> Product<&'a Goldilocks> for Goldilocks {
-    fn product<I: Iterator<Item = &'a Self>>(iter: I) -> Self {
-        iter.copied().product()
-    }
-}
+fold!(Sum sum, ZERO, Add::add);
+fold!(Product product, ONE, Mul::mul);
