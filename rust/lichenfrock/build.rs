@@ -24,7 +24,10 @@ fn given(folder: PathBuf) -> PathBuf {
     let archive = folder.join(ARCHIVE);
     println!("cargo::rerun-if-changed={}", archive.display());
     if !archive.is_file() {
-        give_up(&format!("{FOLDER} is {}, and no {ARCHIVE} is there.", folder.display()));
+        give_up(
+            &format!("{FOLDER} is {}, and no {ARCHIVE} is there.", folder.display()),
+            "Name a folder that has it, or leave the variable out, so that the Rattle kit's rt makes it.",
+        );
     }
     folder
 }
@@ -33,44 +36,59 @@ fn given(folder: PathBuf) -> PathBuf {
 fn made() -> PathBuf {
     let target = format!("{}-{}", variable("CARGO_CFG_TARGET_ARCH"), variable("CARGO_CFG_TARGET_OS"));
     if target != "x86_64-linux" {
-        give_up(&format!("The kit writes {ARCHIVE} for x86_64-linux alone, and this build is for {target}."));
+        give_up(
+            &format!("the Rattle kit's rt writes {ARCHIVE} for x86_64-linux alone, and this build is for {target}."),
+            &format!("Set {FOLDER} to a folder that has one for {target}."),
+        );
     }
     let root = Path::new(&variable("CARGO_MANIFEST_DIR")).join("../..");
     let archive = root.join("target/staticlib").join(ARCHIVE);
     for source in ["crates", "crates.txt"] {
         println!("cargo::rerun-if-changed={}", root.join(source).display());
     }
-    match Command::new("rt").args(["staticlib", "lichenfrock"]).current_dir(&root).output() {
+    make(&root, &archive);
+    let folder = PathBuf::from(variable("OUT_DIR"));
+    if let Err(error) = fs::copy(&archive, folder.join(ARCHIVE)) {
+        give_up(
+            &format!("{} could not be copied: {error}.", archive.display()),
+            "See to it that it can be read.",
+        );
+    }
+    folder
+}
+
+/// Has `rt` prove and compile the archive; without an `rt`, one that is there already serves.
+fn make(root: &Path, archive: &Path) {
+    match Command::new("rt").args(["staticlib", "lichenfrock"]).current_dir(root).output() {
         Ok(run) if run.status.success() => {}
-        Ok(run) => give_up(&format!(
-            "`rt staticlib lichenfrock` failed, so that what is there is not proved.\n{}{}",
-            String::from_utf8_lossy(&run.stdout),
-            String::from_utf8_lossy(&run.stderr)
-        )),
+        Ok(run) => give_up(
+            &format!("`rt staticlib lichenfrock` failed:\n{}{}", text(&run.stdout), text(&run.stderr)),
+            "Only what is proved is compiled. Mend what rt says, and build again.",
+        ),
         Err(error) if error.kind() == ErrorKind::NotFound && archive.is_file() => {
+            println!("cargo::rerun-if-env-changed=PATH");
+            println!("cargo::rerun-if-changed={}", archive.display());
             println!(
                 "cargo::warning=there is no rt on the PATH; the archive that it made earlier is used: {}",
                 archive.display()
             );
         }
-        Err(error) => give_up(&format!("rt, the command of the Rattle kit, could not be started: {error}.")),
+        Err(error) => give_up(
+            &format!("rt, the command of the Rattle kit, could not be started ({error}), and it has made no {ARCHIVE} here yet."),
+            &format!("Put the kit's folder bin on the PATH (README.md, \"What it needs\"), or set {FOLDER} to a folder that has the archive."),
+        ),
     }
-    let folder = PathBuf::from(variable("OUT_DIR"));
-    if let Err(error) = fs::copy(&archive, folder.join(ARCHIVE)) {
-        give_up(&format!("{} could not be copied: {error}.", archive.display()));
-    }
-    folder
 }
 
 fn variable(name: &str) -> String {
-    env::var(name).unwrap_or_else(|_| give_up(&format!("cargo has not set {name}.")))
+    env::var(name).unwrap_or_else(|_| give_up(&format!("cargo has not set {name}."), "Build with cargo."))
 }
 
-fn give_up(why: &str) -> ! {
-    eprintln!(
-        "lichenfrock: {why}\n\n\
-         This crate links {ARCHIVE}, which is compiled from proved code. Either put the Rattle kit's folder bin on the PATH, \
-         so that the build makes it (README.md, \"What it needs\"), or set {FOLDER} to a folder that has it for this processor."
-    );
+fn text(bytes: &[u8]) -> String {
+    String::from_utf8_lossy(bytes).into_owned()
+}
+
+fn give_up(why: &str, what_to_do: &str) -> ! {
+    eprintln!("lichenfrock: {why}\n{what_to_do}");
     exit(1);
 }

@@ -57,7 +57,7 @@ use Rattle.lichenfrock.proofs.lichenfrock_from_canonical_checked_u64.Re
 use Rattle.lichenfrock.proofs.lichenfrock_from_canonical_checked_i64.Reads as lichenfrock-from-canonical-checked-i64
 use Rattle.lichenfrock.proofs.lichenfrock_value.Reads as lichenfrock-value
 use Rattle.lichenfrock.specs.Handed.{numberAndWord, numberAndIndex, sign, Handed}
-use Rattle.lichenfrock.specs.Same.{Same, Hands}
+use Rattle.lichenfrock.specs.Same.{Same}
 
 pub add-same : Same lichenfrock-add.Asked lichenfrock-add.Learnt add.Learnt
 add-same = record { free = λ k a. tt; same = refl }
@@ -80,13 +80,13 @@ square-same = record { free = λ k a. tt; same = refl }
 pub halve-same : Same lichenfrock-halve.Asked lichenfrock-halve.Learnt halve.Learnt
 halve-same = record { free = λ k a. tt; same = refl }
 
-pub sum-array-same : Hands lichenfrock-sum-array.Asked lichenfrock-sum-array.Learnt numberAndWord
-    (λ k a s r. sum-array.Learnt (k .0, tt) (a .0, tt) r (s .0, tt)) (λ k r s. (r, now (s .1 .0)))
-sum-array-same = record { free = λ k a. tt; hands = λ k a r s. refl }
+pub sum-array-same : Same lichenfrock-sum-array.Asked lichenfrock-sum-array.Learnt
+    (λ k a r s. Handed numberAndWord (λ b. sum-array.Learnt (k .0, tt) (a .0, tt) b (s .0, tt)) (r, now (s .1 .0)))
+sum-array-same = record { free = λ k a. tt; same = refl }
 
-pub dot-product-same : Hands lichenfrock-dot-product.Asked lichenfrock-dot-product.Learnt numberAndWord
-    (λ k a s r. dot-product.Learnt (k .0, (k .1 .0, tt)) (a .0, (a .1 .0, tt)) r (s .0, (s .1 .0, tt))) (λ k r s. (r, now (s .1 .1 .0)))
-dot-product-same = record { free = λ k a. tt; hands = λ k a r s. refl }
+pub dot-product-same : Same lichenfrock-dot-product.Asked lichenfrock-dot-product.Learnt
+    (λ k a r s. Handed numberAndWord (λ b. dot-product.Learnt (k .0, (k .1 .0, tt)) (a .0, (a .1 .0, tt)) b (s .0, (s .1 .0, tt))) (r, now (s .1 .1 .0)))
+dot-product-same = record { free = λ k a. tt; same = refl }
 
 pub from-i64-same : Same lichenfrock-from-i64.Asked lichenfrock-from-i64.Learnt from-i64.Learnt
 from-i64-same = record { free = λ k a. tt; same = refl }
@@ -100,53 +100,53 @@ mul-2exp-u64-same = record { free = λ k a. tt; same = refl }
 pub div-2exp-u64-same : Same lichenfrock-div-2exp-u64.Asked lichenfrock-div-2exp-u64.Learnt div-2exp-u64.Learnt
 div-2exp-u64-same = record { free = λ k a. tt; same = refl }
 
-pub try-inverse-same : Hands lichenfrock-try-inverse.Asked lichenfrock-try-inverse.Learnt numberAndWord
-    (λ k a s r. try-inverse.Learnt tt (a .0, tt) r (s .0, tt)) (λ k r s. (r, now (s .1 .0)))
-try-inverse-same = record { free = λ k a. tt; hands = λ k a r s. refl }
+pub try-inverse-same : Same lichenfrock-try-inverse.Asked lichenfrock-try-inverse.Learnt
+    (λ k a r s. Handed numberAndWord (λ b. try-inverse.Learnt tt (a .0, tt) b (s .0, tt)) (r, now (s .1 .0)))
+try-inverse-same = record { free = λ k a. tt; same = refl }
 
-pub try-sqrt-same : Hands lichenfrock-try-sqrt.Asked lichenfrock-try-sqrt.Learnt numberAndWord
-    (λ k a s r. try-sqrt.Learnt tt (a .0, tt) r (s .0, tt)) (λ k r s. (r, now (s .1 .0)))
-try-sqrt-same = record { free = λ k a. tt; hands = λ k a r s. refl }
+pub try-sqrt-same : Same lichenfrock-try-sqrt.Asked lichenfrock-try-sqrt.Learnt
+    (λ k a r s. Handed numberAndWord (λ b. try-sqrt.Learnt tt (a .0, tt) b (s .0, tt)) (r, now (s .1 .0)))
+try-sqrt-same = record { free = λ k a. tt; same = refl }
 
 pub injective-exp-root-n-same : Same lichenfrock-injective-exp-root-n.Asked lichenfrock-injective-exp-root-n.Learnt injective-exp-root-n.Learnt
 injective-exp-root-n-same = record { free = λ k a. tt; same = refl }
 
-pub two-adic-generator-same : Hands lichenfrock-two-adic-generator.Asked lichenfrock-two-adic-generator.Learnt numberAndWord
-    (λ k a s r. two-adic-generator.Learnt tt (a .0, tt) r (s .0, tt)) (λ k r s. (r, now (s .1 .0)))
-two-adic-generator-same = record { free = λ k a. tt; hands = λ k a r s. refl }
+pub two-adic-generator-same : Same lichenfrock-two-adic-generator.Asked lichenfrock-two-adic-generator.Learnt
+    (λ k a r s. Handed numberAndWord (λ b. two-adic-generator.Learnt tt (a .0, tt) b (s .0, tt)) (r, now (s .1 .0)))
+two-adic-generator-same = record { free = λ k a. tt; same = refl }
 
 pub eq-same : Same lichenfrock-eq.Asked lichenfrock-eq.Learnt eq.Learnt
 eq-same = record { free = λ k a. tt; same = refl }
 
-pub cmp-same : Hands lichenfrock-cmp.Asked lichenfrock-cmp.Learnt sign
-    (λ k a s r. cmp.Learnt k a r s) (λ k r s. r)
-cmp-same = record { free = λ k a. tt; hands = λ k a r s. refl }
+pub cmp-same : Same lichenfrock-cmp.Asked lichenfrock-cmp.Learnt
+    (λ k a r s. Handed sign (λ b. cmp.Learnt k a b s) r)
+cmp-same = record { free = λ k a. tt; same = refl }
 
 pub is-zero-same : Same lichenfrock-is-zero.Asked lichenfrock-is-zero.Learnt is-zero.Learnt
 is-zero-same = record { free = λ k a. tt; same = refl }
 
-pub slot-same : Hands lichenfrock-slot.Asked lichenfrock-slot.Learnt numberAndWord
-    (λ k a s r. slot.Learnt tt (a .0, (a .1 .0, tt)) r (s .0, (s .1 .0, tt))) (λ k r s. (r, now (s .1 .1 .0)))
-slot-same = record { free = λ k a. tt; hands = λ k a r s. refl }
+pub slot-same : Same lichenfrock-slot.Asked lichenfrock-slot.Learnt
+    (λ k a r s. Handed numberAndWord (λ b. slot.Learnt tt (a .0, (a .1 .0, tt)) b (s .0, (s .1 .0, tt))) (r, now (s .1 .1 .0)))
+slot-same = record { free = λ k a. tt; same = refl }
 
-pub encode-same : Hands lichenfrock-encode.Asked lichenfrock-encode.Learnt numberAndIndex
-    (λ k a s r. encode.Learnt (k .0, (k .1 .0, tt)) (a .0, (a .1 .0, tt)) r (s .0, (s .1 .0, tt))) (λ k r s. (r, now (s .1 .1 .0)))
-encode-same = record { free = λ k a. tt; hands = λ k a r s. refl }
+pub encode-same : Same lichenfrock-encode.Asked lichenfrock-encode.Learnt
+    (λ k a r s. Handed numberAndIndex (λ b. encode.Learnt (k .0, (k .1 .0, tt)) (a .0, (a .1 .0, tt)) b (s .0, (s .1 .0, tt))) (r, now (s .1 .1 .0)))
+encode-same = record { free = λ k a. tt; same = refl }
 
-pub decode-same : Hands lichenfrock-decode.Asked lichenfrock-decode.Learnt numberAndIndex
-    (λ k a s r. decode.Learnt (k .0, (k .1 .0, tt)) (a .0, (a .1 .0, tt)) r (s .0, (s .1 .0, tt))) (λ k r s. (r, now (s .1 .1 .0)))
-decode-same = record { free = λ k a. tt; hands = λ k a r s. refl }
+pub decode-same : Same lichenfrock-decode.Asked lichenfrock-decode.Learnt
+    (λ k a r s. Handed numberAndIndex (λ b. decode.Learnt (k .0, (k .1 .0, tt)) (a .0, (a .1 .0, tt)) b (s .0, (s .1 .0, tt))) (r, now (s .1 .1 .0)))
+decode-same = record { free = λ k a. tt; same = refl }
 
 pub as-canonical-u64-same : Same lichenfrock-as-canonical-u64.Asked lichenfrock-as-canonical-u64.Learnt as-canonical-u64.Learnt
 as-canonical-u64-same = record { free = λ k a. tt; same = refl }
 
-pub from-canonical-checked-u64-same : Hands lichenfrock-from-canonical-checked-u64.Asked lichenfrock-from-canonical-checked-u64.Learnt numberAndWord
-    (λ k a s r. from-canonical-checked-u64.Learnt tt (a .0, tt) r (s .0, tt)) (λ k r s. (r, now (s .1 .0)))
-from-canonical-checked-u64-same = record { free = λ k a. tt; hands = λ k a r s. refl }
+pub from-canonical-checked-u64-same : Same lichenfrock-from-canonical-checked-u64.Asked lichenfrock-from-canonical-checked-u64.Learnt
+    (λ k a r s. Handed numberAndWord (λ b. from-canonical-checked-u64.Learnt tt (a .0, tt) b (s .0, tt)) (r, now (s .1 .0)))
+from-canonical-checked-u64-same = record { free = λ k a. tt; same = refl }
 
-pub from-canonical-checked-i64-same : Hands lichenfrock-from-canonical-checked-i64.Asked lichenfrock-from-canonical-checked-i64.Learnt numberAndWord
-    (λ k a s r. from-canonical-checked-i64.Learnt tt (a .0, tt) r (s .0, tt)) (λ k r s. (r, now (s .1 .0)))
-from-canonical-checked-i64-same = record { free = λ k a. tt; hands = λ k a r s. refl }
+pub from-canonical-checked-i64-same : Same lichenfrock-from-canonical-checked-i64.Asked lichenfrock-from-canonical-checked-i64.Learnt
+    (λ k a r s. Handed numberAndWord (λ b. from-canonical-checked-i64.Learnt tt (a .0, tt) b (s .0, tt)) (r, now (s .1 .0)))
+from-canonical-checked-i64-same = record { free = λ k a. tt; same = refl }
 
 pub value-same : Same lichenfrock-value.Asked lichenfrock-value.Learnt value.Learnt
 value-same = record { free = λ k a. tt; same = refl }

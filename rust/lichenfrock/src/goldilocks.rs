@@ -316,7 +316,9 @@ impl Goldilocks {
     /// ```
     #[inline]
     pub fn to_bytes(self) -> [u8; 8] {
-        self.as_canonical_u64().to_le_bytes()
+        let mut bytes = [0; 8];
+        Self::encode(&[self], &mut bytes).expect("one word takes 8 bytes");
+        bytes
     }
 
     /// The element of 8 bytes. Where they are not canonical it is refused 1.
@@ -329,7 +331,8 @@ impl Goldilocks {
     /// ```
     #[inline]
     pub fn from_bytes(bytes: [u8; 8]) -> Result<Self, Refusal> {
-        Self::from_canonical_checked_u64(u64::from_le_bytes(bytes))
+        let mut words = [Self::ZERO];
+        Self::decode(&bytes, &mut words).map(|()| words[0])
     }
 
     /// The canonical form, the number below P: what seeds, files and other programs are to see.

@@ -1,18 +1,23 @@
 -- Each case is told by its number.
 use borrow.Author.Needs.{needs}
-use mathlib.Core.Path.{sym, ap}
-use Rattle.lichenfrock.specs.Handed.{sign}
+use mathlib.Core.Path.{_≡_, sym, ap}
+use Rattle.words.specs.declared.canonical.Ordering.{Ordering}
+use Rattle.words.specs.Promises.{Seen}
+use Rattle.lichenfrock.specs.Handed.{sign, Handed}
 use Rattle.lichenfrock.proofs.lichenfrock_cmp.Statement.{statement}
 use Rattle.lichenfrock.proofs.lichenfrock_cmp.Tie as tie
 
+told : {c e r o : Ordering} → Seen c e r → r ≡ o → Handed sign (Seen c e) (sign o)
+told seen is = record { answer = _; promised = seen; handed = ap sign (sym is) }
+
 returns : tie.Need-returns
-returns c = record { answer = _; promised = c .before .before .cmp .ensures; handed = ap sign (sym (c .enum-told .given .1)) }
+returns c = told (c .before .before .cmp .ensures) (c .enum-told .given .1)
 
 returns-2 : tie.Need-returns-2
-returns-2 c = record { answer = _; promised = c .before .before .cmp .ensures; handed = ap sign (sym (c .enum-told2 .given .1)) }
+returns-2 c = told (c .before .before .cmp .ensures) (c .enum-told2 .given .1)
 
 returns-3 : tie.Need-returns-3
-returns-3 c = record { answer = _; promised = c .before .before .cmp .ensures; handed = ap sign (sym (c .enum-told3 .given .1)) }
+returns-3 c = told (c .before .before .cmp .ensures) (c .enum-told3 .given .1)
 
 pub lichenfrock-cmp-spec : {M : Type 1} → statement M
 lichenfrock-cmp-spec =
