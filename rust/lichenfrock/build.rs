@@ -32,21 +32,22 @@ fn given(folder: PathBuf) -> PathBuf {
     folder
 }
 
-/// The folder of this build, with a copy of the archive that `rt` makes, or that it made earlier.
+/// The folder of this build, with a copy of the archive that `tools/archive` makes, or that it made earlier.
 fn made() -> PathBuf {
-    let target = format!("{}-{}", variable("CARGO_CFG_TARGET_ARCH"), variable("CARGO_CFG_TARGET_OS"));
-    if target != "x86_64-linux" {
+    let processor = variable("CARGO_CFG_TARGET_ARCH");
+    let system = variable("CARGO_CFG_TARGET_OS");
+    if !["x86_64", "aarch64"].contains(&processor.as_str()) || system != "linux" {
         give_up(
-            &format!("the Rattle kit's rt writes {ARCHIVE} for x86_64-linux alone, and this build is for {target}."),
-            &format!("Set {FOLDER} to a folder that has one for {target}."),
+            &format!("tools/archive writes {ARCHIVE} for Linux on x86_64 and aarch64, and this build is for {processor}-{system}."),
+            &format!("Set {FOLDER} to a folder that has one for {processor}-{system}."),
         );
     }
     let root = Path::new(&variable("CARGO_MANIFEST_DIR")).join("../..");
-    let archive = root.join("target/staticlib").join(ARCHIVE);
-    for source in ["crates", "crates.txt"] {
+    let archive = root.join("target/archive").join(&processor).join(ARCHIVE);
+    for source in ["crates", "crates.txt", "tools/archive"] {
         println!("cargo::rerun-if-changed={}", root.join(source).display());
     }
-    make(&root, &archive);
+    make(&root, &processor, &archive);
     let folder = PathBuf::from(variable("OUT_DIR"));
     if let Err(error) = fs::copy(&archive, folder.join(ARCHIVE)) {
         give_up(
@@ -58,13 +59,9 @@ fn made() -> PathBuf {
 }
 
 /// Has `rt` prove and compile the archive; without an `rt`, one that is there already serves.
-fn make(root: &Path, archive: &Path) {
-    match Command::new("rt").args(["staticlib", "lichenfrock"]).current_dir(root).output() {
-        Ok(run) if run.status.success() => {}
-        Ok(run) => give_up(
-            &format!("`rt staticlib lichenfrock` failed:\n{}{}", text(&run.stdout), text(&run.stderr)),
-            "Only what is proved is compiled. Mend what rt says, and build again.",
-        ),
+fn make(root: &Path, processor: &str, archive: &Path) {
+    match Command::new("rt").arg("version").output() {
+        Ok(_) => prove(root, processor),
         Err(error) if error.kind() == ErrorKind::NotFound && archive.is_file() => {
             println!("cargo::rerun-if-env-changed=PATH");
             println!("cargo::rerun-if-changed={}", archive.display());
@@ -74,9 +71,20 @@ fn make(root: &Path, archive: &Path) {
             );
         }
         Err(error) => give_up(
-            &format!("rt, the command of the Rattle kit, could not be started ({error}), and it has made no {ARCHIVE} here yet."),
+            &format!("rt, the command of the Rattle kit, could not be started ({error}), and it has made no {ARCHIVE} for {processor} here yet."),
             &format!("Put the kit's folder bin on the PATH (README.md, \"What it needs\"), or set {FOLDER} to a folder that has the archive."),
         ),
+    }
+}
+
+fn prove(root: &Path, processor: &str) {
+    match Command::new("bash").args(["tools/archive", processor]).current_dir(root).output() {
+        Ok(run) if run.status.success() => {}
+        Ok(run) => give_up(
+            &format!("`tools/archive {processor}` failed:\n{}{}", text(&run.stdout), text(&run.stderr)),
+            "Only what is proved is compiled. Mend what rt says, and build again.",
+        ),
+        Err(error) => give_up(&format!("bash could not be started: {error}."), "Put it on the PATH."),
     }
 }
 
