@@ -82,13 +82,8 @@ module _ (ws : List ℕ) (i s : ℕ) (e : s + total (drop i ws) ≡ total ws) wh
   unfolding total
   total-next h = rw (add-one i, drop-cons ws i 0 h)
 
-  pub total-room : i < length ws → Slice ws → length ws < 2 ^ 64 → s + limbs (getD ws i 0) 0 < 2 ^ 128
-  total-room h f k =
-      let below : s + limbs (getD ws i 0) 0 ≤ total ws = omega (arith, total-next h, limbs-word (getD ws i 0)) in
-      lt-of-le-of-lt below (total-fits ws (each-word ws f) k)
-
-  pub total-step : i < length ws → {r : ℕ} → r ≡ s + limbs (getD ws i 0) 0 → r + total (drop (i + 1) ws) ≡ total ws
-  total-step h f = omega (arith, total-next h, limbs-word (getD ws i 0))
+  pub total-step : i < length ws → {r : ℕ} → r ≡ s + getD ws i 0 → r + total (drop (i + 1) ws) ≡ total ws
+  total-step h f = omega (arith, total-next h)
 
   pub total-end : length ws ≤ i → s ≡ total ws
   unfolding total

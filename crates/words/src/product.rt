@@ -28,7 +28,7 @@ fn mul_halves(a: u64, b: u64) -> u64
 
 // The sum of four partial products, hh * 2^64 + (lh + hl) * 2^32 + ll. The upper limb is the ladder of the Rust's wasm arm, the low limb a
 // sum of its own: with the low limb taken from the ladder too, LLVM would not find that `mul_wide` is one multiply.
-fn join(ll: u64, lh: u64, hl: u64, hh: u64) -> Limbs
+pub(crate) fn join(ll: u64, lh: u64, hl: u64, hh: u64) -> Limbs
     requires { ⌜ (ll ≤ largest 32) × (lh ≤ largest 32) × (hl ≤ largest 32) × (hh ≤ largest 32) ⌝ }
     ensures { λ r. ⌜ limbs (r .lo) (r .hi) ≡ 2 ^ 64 * hh + 2 ^ 32 * (lh + hl) + ll ⌝ }
 {

@@ -12,6 +12,7 @@ use super::answers::Refusal;
 use super::bits::high_bits;
 use super::bits::low_bits;
 use super::product::Limbs;
+use super::product::join;
 use super::product::mul;
 use super::product::mul_wide;
 use super::product::reduce128;
@@ -37,18 +38,21 @@ fn add_wide(a: Limbs, b: Limbs) -> Limbs
     Limbs { lo, hi }
 }
 
-// The exact sum of the words: below 2^128 for every length.
+// The exact sum of the words, by halves of 32 bits. Over up to LIMIT words neither half's sum comes near 2^64, so that no carry has to be waited for
+// and several words are added at a time.
 fn exact_sum(input: &[u64]) -> Limbs
+    requires { ⌜ length (now input) ≤ limit ⌝ }
     ensures { λ r. ⌜ limbs (r .lo) (r .hi) ≡ total (now (input .entry)) ⌝ }
 {
-    let mut sum = Limbs { lo: 0, hi: 0 };
+    let mut low = 0;
+    let mut high = 0;
     let mut i = 0;
     while i < input.len() {
-        let lo = input[i];
-        sum = add_wide(sum, Limbs { lo, hi: 0 });
+        low += low_bits(input[i], 32);
+        high += high_bits(input[i], 32);
         i += 1;
     }
-    sum
+    join(low, high, 0, 0)
 }
 
 // The sum of the words: below four by add, from four on by one reduction of the exact sum.

@@ -38,7 +38,11 @@ impl Source {
         Goldilocks::sum_array::<N>(all_of(input)).value
     }
 
-    /// `dot_product` of the source, the same way.
+    /// `dot_product` of the source, the same way. Its own bound is 2^31 pairs:
+    ///
+    /// ```compile_fail
+    /// let _: fn(&[u64], &[u64]) -> u64 = oracle::Source::dot::<{ (1 << 31) + 1 }>;
+    /// ```
     #[inline]
     pub fn dot<const N: usize>(lhs: &[u64], rhs: &[u64]) -> u64 {
         let (lhs, rhs) = (all_of(lhs).try_into(), all_of(rhs).try_into());
