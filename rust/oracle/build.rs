@@ -28,12 +28,17 @@ fn main() {
 }
 
 fn sha256(path: &Path) -> String {
-    let run = Command::new("sha256sum").stdin(fs::File::open(path).unwrap_or_else(|error| give_up(path, &error.to_string()))).output();
+    let run = Command::new("sha256sum")
+        .stdin(fs::File::open(path).unwrap_or_else(|error| give_up(path, &error.to_string())))
+        .output();
     let run = run.unwrap_or_else(|error| give_up(path, &format!("sha256sum could not be started: {error}")));
     String::from_utf8_lossy(&run.stdout).split(' ').next().unwrap_or_default().to_owned()
 }
 
 fn give_up(path: &Path, why: &str) -> ! {
-    eprintln!("oracle: {}: {why}.\nSet {VARIABLE} to src/goldilocks.rs of p3-goldilocks 0.8.0.", path.display());
+    eprintln!(
+        "oracle: {}: {why}.\nSet {VARIABLE} to src/goldilocks.rs of p3-goldilocks 0.8.0.",
+        path.display()
+    );
     exit(1);
 }

@@ -44,9 +44,19 @@ pub fn all() -> Vec<Job> {
         dots::<64>(),
         dots::<4096>(),
         each("mul_2exp_u64, call", exponent, |x, exp| x.mul_2exp_u64(exp.held_word()), called::mul_2exp_u64),
-        each("mul_2exp_u64, in line", exponent, |x, exp| x.mul_2exp_u64(exp.held_word()), Source::mul_2exp_u64),
+        each(
+            "mul_2exp_u64, in line",
+            exponent,
+            |x, exp| x.mul_2exp_u64(exp.held_word()),
+            Source::mul_2exp_u64,
+        ),
         each("div_2exp_u64, call", exponent, |x, exp| x.div_2exp_u64(exp.held_word()), called::div_2exp_u64),
-        each("div_2exp_u64, in line", exponent, |x, exp| x.div_2exp_u64(exp.held_word()), Source::div_2exp_u64),
+        each(
+            "div_2exp_u64, in line",
+            exponent,
+            |x, exp| x.div_2exp_u64(exp.held_word()),
+            Source::div_2exp_u64,
+        ),
         few("try_inverse", |x| x.try_inverse().is_ok(), |x| Source::try_inverse(x).is_ok()),
         few("try_sqrt", |x| x.try_sqrt().is_ok(), |x| Source::try_sqrt(x).is_ok()),
         encode(),
@@ -55,7 +65,11 @@ pub fn all() -> Vec<Job> {
 }
 
 fn job(name: &str, ours: impl Fn() + 'static, theirs: impl Fn() + 'static) -> Job {
-    Job { name: name.to_owned(), ours: Box::new(ours), theirs: Box::new(theirs) }
+    Job {
+        name: name.to_owned(),
+        ours: Box::new(ours),
+        theirs: Box::new(theirs),
+    }
 }
 
 /// Random words, and the same as elements.

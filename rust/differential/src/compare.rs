@@ -17,7 +17,10 @@ pub fn compare_fixed(mut differs: impl FnMut(String)) -> u64 {
 
 /// Asks both `calls` random calls from a seed. Hands over each that differs.
 pub fn compare(calls: u64, seed: u64, mut differs: impl FnMut(String)) {
-    let mut inputs = Inputs { random: Random::from(seed), edges: edges() };
+    let mut inputs = Inputs {
+        random: Random::from(seed),
+        edges: edges(),
+    };
     for number in 0..calls {
         if let Err(difference) = inputs.compare_one() {
             differs(format!("call {number} of seed {seed}: {difference}"));
@@ -101,7 +104,11 @@ impl Inputs {
         let length = self.length();
         let other = if self.random.below(16) == 0 { self.length() } else { length };
         let (lhs, rhs) = (self.words(length), self.words(other));
-        same(|| format!("dot_product of {lhs:X?} and {rhs:X?}"), Source::dot_product(&lhs, &rhs), Library::dot_product(&lhs, &rhs))
+        same(
+            || format!("dot_product of {lhs:X?} and {rhs:X?}"),
+            Source::dot_product(&lhs, &rhs),
+            Library::dot_product(&lhs, &rhs),
+        )
     }
 
     /// A length in bytes for so many words, now and then a wrong one.
@@ -159,6 +166,10 @@ impl Inputs {
         let root = Library::injective_exp_root_n(x);
         let cube = Source::mul(Source::square(root), root);
         let seventh = Source::mul(Source::square(cube), root);
-        same(|| format!("the seventh power of the seventh root of {x:X}"), Source::as_canonical_u64(x), Source::as_canonical_u64(seventh))
+        same(
+            || format!("the seventh power of the seventh root of {x:X}"),
+            Source::as_canonical_u64(x),
+            Source::as_canonical_u64(seventh),
+        )
     }
 }

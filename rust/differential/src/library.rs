@@ -20,7 +20,10 @@ fn limbs(lo: u64, hi: u64) -> u128 {
 }
 
 fn refused(refusal: Refusal) -> Refused {
-    Refused { number: refusal.number(), index: refusal.index() }
+    Refused {
+        number: refusal.number(),
+        index: refusal.index(),
+    }
 }
 
 fn held(answer: Result<Goldilocks, Refusal>) -> Answer {

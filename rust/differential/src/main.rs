@@ -6,7 +6,7 @@ use std::process::ExitCode;
 use std::time::Instant;
 
 /// As many as take some seconds.
-const CALLS: u64 = 3_000_000;
+const CALLS: u64 = 10_000_000;
 /// Of what differs, so much is written.
 const WRITTEN: u64 = 20;
 

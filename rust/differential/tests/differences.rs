@@ -108,14 +108,17 @@ mod comments {
         assert_eq!(Source::reduce128(P, 0), P);
     }
 
-    /// "acc_lo accumulates lo + 2^{96}hi": not beyond 2^128, which three products pass. The answer is right.
+    /// "acc_lo accumulates lo + 2^{96}hi": not beyond 2^128, which two products pass already. The answer is right.
     #[test]
-    fn three_products_pass_2_to_the_128() {
+    fn products_pass_2_to_the_128() {
         let product = u128::from(u64::MAX) * u128::from(u64::MAX);
         assert_eq!(product.checked_add(product), None);
         let one = Source::mul(u64::MAX, u64::MAX);
         let three = Source::add(Source::add(one, one), one);
-        assert_eq!(Source::as_canonical_u64(Source::dot::<3>(&[u64::MAX; 3], &[u64::MAX; 3])), Source::as_canonical_u64(three));
+        assert_eq!(
+            Source::as_canonical_u64(Source::dot::<3>(&[u64::MAX; 3], &[u64::MAX; 3])),
+            Source::as_canonical_u64(three)
+        );
     }
 
     /// `assert!((N as u32) <= (1 << 31))` lets 2^32 pairs through: this instance compiles. One of 2^31 + 1 does not, as `Source::dot` shows.

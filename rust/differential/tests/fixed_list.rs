@@ -28,7 +28,9 @@ fn its_lines_have_one_width_and_are_enough() {
 #[test]
 fn no_operation_is_left_out() {
     let table = read("crates/goldilocks/src/lib.rt");
-    let listed = table.lines().filter_map(|line| line.strip_prefix("pub use ")?.strip_suffix(';')?.rsplit("::").next());
+    let listed = table
+        .lines()
+        .filter_map(|line| line.strip_prefix("pub use ")?.strip_suffix(';')?.rsplit("::").next());
     let operations: Vec<&str> = listed.filter(|name| name.starts_with(char::is_lowercase)).collect();
     let compared: Vec<&str> = Operation::ALL.iter().map(|operation| operation.name()).collect();
     assert_eq!(compared, operations);

@@ -89,7 +89,14 @@ const LENT: u8 = 0xA5;
 impl Call {
     /// An operation on two words.
     pub fn of(operation: Operation, a: u64, b: u64) -> Self {
-        Self { operation, a, b, c: 0, n: 0, m: 0 }
+        Self {
+            operation,
+            a,
+            b,
+            c: 0,
+            n: 0,
+            m: 0,
+        }
     }
 
     /// Asks it.
@@ -140,7 +147,10 @@ impl Call {
             let answer = A::decode(&bytes, &mut lent);
             (answer, digest(lent.into_iter()))
         };
-        Outcome { word, ..answer.map(|()| 0).into() }
+        Outcome {
+            word,
+            ..answer.map(|()| 0).into()
+        }
     }
 }
 

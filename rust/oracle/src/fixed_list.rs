@@ -17,7 +17,16 @@ pub fn fixed_list() -> String {
 /// The calls of the list.
 pub fn fixed_calls() -> Vec<Call> {
     let mut random = Random::from(1);
-    [pairs(), singles(&mut random), shifts(&mut random), counted(), sums(&mut random), dots(&mut random), codings(&mut random)].concat()
+    [
+        pairs(),
+        singles(&mut random),
+        shifts(&mut random),
+        counted(),
+        sums(&mut random),
+        dots(&mut random),
+        codings(&mut random),
+    ]
+    .concat()
 }
 
 /// Edge words against edge words.
@@ -51,7 +60,9 @@ fn singles(random: &mut Random) -> Vec<Call> {
     words.extend((-2..=2).map(|step| (P / 2).wrapping_neg().wrapping_add_signed(step)));
     words.extend(3..20);
     words.extend((0..20).map(|_| random.word()));
-    ALL.iter().flat_map(|&operation| words.iter().map(move |&a| Call::of(operation, a, 0))).collect()
+    ALL.iter()
+        .flat_map(|&operation| words.iter().map(move |&a| Call::of(operation, a, 0)))
+        .collect()
 }
 
 /// Every exponent to 400, the largest, and some between.
@@ -86,14 +97,29 @@ fn lists(random: &mut Random) -> Vec<(u64, u64)> {
 
 fn sums(random: &mut Random) -> Vec<Call> {
     let lists = lists(random);
-    let list = |n| lists.iter().map(move |&(a, c)| Call { c, n, ..Call::of(SumArray, a, 0) });
+    let list = |n| {
+        lists.iter().map(move |&(a, c)| Call {
+            c,
+            n,
+            ..Call::of(SumArray, a, 0)
+        })
+    };
     LENGTHS.iter().flat_map(|&n| list(n)).collect()
 }
 
 /// The same lists against themselves and the largest word, and lists of unequal length.
 fn dots(random: &mut Random) -> Vec<Call> {
     let lists = lists(random);
-    let of = |n, m| lists.iter().flat_map(move |&(a, c)| [a, u64::MAX].map(|b| Call { c, n, m, ..Call::of(DotProduct, a, b) }));
+    let of = |n, m| {
+        lists.iter().flat_map(move |&(a, c)| {
+            [a, u64::MAX].map(|b| Call {
+                c,
+                n,
+                m,
+                ..Call::of(DotProduct, a, b)
+            })
+        })
+    };
     let equal = LENGTHS.iter().flat_map(|&n| of(n, n));
     let unequal = [(0, 1), (1, 0), (1, 2), (3, 2), (64, 65), (4095, 4096), (4096, 4097), (4097, 1), (0, 4097)];
     equal.chain(unequal.iter().flat_map(|&(n, m)| of(n, m))).collect()
@@ -105,19 +131,44 @@ fn codings(random: &mut Random) -> Vec<Call> {
     for &words in LENGTHS {
         let bytes = 8 * words;
         for (a, c) in lists(random) {
-            calls.push(Call { c, n: words, m: bytes, ..Call::of(Encode, a, 0) });
-            calls.push(Call { c, n: bytes, m: words, ..Call::of(Decode, a, 0) });
+            calls.push(Call {
+                c,
+                n: words,
+                m: bytes,
+                ..Call::of(Encode, a, 0)
+            });
+            calls.push(Call {
+                c,
+                n: bytes,
+                m: words,
+                ..Call::of(Decode, a, 0)
+            });
         }
         for bytes in [0, bytes.saturating_sub(8), bytes.saturating_sub(1), bytes + 1] {
             let (a, c) = (random.word(), random.word());
-            calls.push(Call { c, n: words, m: bytes, ..Call::of(Encode, a, 0) });
-            calls.push(Call { c, n: bytes, m: words, ..Call::of(Decode, a, 0) });
+            calls.push(Call {
+                c,
+                n: words,
+                m: bytes,
+                ..Call::of(Encode, a, 0)
+            });
+            calls.push(Call {
+                c,
+                n: bytes,
+                m: words,
+                ..Call::of(Decode, a, 0)
+            });
         }
         for bad in [0, 1, words / 2, words.saturating_sub(1)] {
             // the list is such that the word at this place is out of range
             let (group, c) = (random.one_of(&[P, P + 1, u64::MAX]), random.word());
             let a = group.wrapping_sub(c.wrapping_mul(bad as u64));
-            calls.push(Call { c, n: bytes, m: words, ..Call::of(Decode, a, 0) });
+            calls.push(Call {
+                c,
+                n: bytes,
+                m: words,
+                ..Call::of(Decode, a, 0)
+            });
         }
     }
     calls

@@ -6,7 +6,10 @@ pub const P: u64 = 0xFFFF_FFFF_0000_0001;
 /// The words at most 2 from those where a rule turns: 0 and 2^64, 2^16, 2^31, 2^32, 2^33, 2^48, 2^63, (P - 1) / 2 and P.
 pub fn edges() -> Vec<u64> {
     let turns = [0, 1 << 16, 1 << 31, 1 << 32, 1 << 33, 1 << 48, 1 << 63, P / 2, P];
-    turns.iter().flat_map(|turn: &u64| (-2..=2).map(|step| turn.wrapping_add_signed(step))).collect()
+    turns
+        .iter()
+        .flat_map(|turn: &u64| (-2..=2).map(|step| turn.wrapping_add_signed(step)))
+        .collect()
 }
 
 /// The generator splitmix64: the same words from the same seed.
