@@ -21,7 +21,7 @@ pub(crate) fn glyph(digit: u64) -> u8
 }
 
 // The digit that a byte writes, 16 if it writes none.
-fn digit(byte: u8) -> u64
+pub fn digit(byte: u8) -> u64
     ensures { λ r. ⌜ (r < 16 → byte ≡ Replies·glyph r) × (16 ≤ r → (d : ℕ) → d < 16 → byte ≢ Replies·glyph d) ⌝ }
 {
     match byte {

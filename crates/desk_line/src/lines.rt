@@ -17,7 +17,7 @@ use goldilocks::try_inverse;
 use goldilocks::try_sqrt;
 
 // Whether two lists of bytes are the same.
-fn same(a: &[u8], b: &[u8]) -> bool
+pub fn same(a: &[u8], b: &[u8]) -> bool
     ensures { λ r. ⌜ r ≡ Replies·same (now (a .entry)) (now (b .entry)) ⌝ }
 {
     if a.len() != b.len() {

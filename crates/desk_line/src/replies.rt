@@ -26,7 +26,7 @@ pub(crate) fn silence() -> Reply
 }
 
 // The 16 digits of a word and the line's end.
-fn spell_word(word: u64) -> [u8; 17]
+pub fn spell_word(word: u64) -> [u8; 17]
     ensures { λ r. ⌜ r ≡ hex 16 word ++ (10 ∷ []) ⌝ }
 {
     let mut text = [10u8; 17];

@@ -1,15 +1,13 @@
 -- The generators: the table of the source is their rule, and the laws that document 01 gives.
 use mathlib.Core.Path.{_≡_, sym, ap, _∙_}
-use Prim.Native.Nat.{ℕ, suc, _-_, _*_, _%_, _^_, _<_, _≤_}
-use native.Mathlib.Nat.{zero-add, two-pow-succ}
+use Prim.Native.Nat.{ℕ, suc, _-_, _*_, _%_, _^_, _<_}
+use native.Mathlib.Nat.{two-pow-succ}
 use native.Mathlib.Omega.{arith}
 use lib.Dec.{lit<}
-use lib.ListN.{getD}
 use Rattle.prime.specs.Modulus.{P}
 use Rattle.prime.specs.Powers.{power, fast}
 use Rattle.prime.proofs.Powers.{power-below, power-add}
 use Rattle.prime.proofs.Theorems.{fast-power}
-use Rattle.words.proofs.Tables.{entries, entry-at}
 use Rattle.roots.specs.Roots.{G, generatorWord}
 
 -- ---- the table
@@ -18,9 +16,9 @@ use Rattle.roots.specs.Roots.{G, generatorWord}
 abbrev quick : ℕ → ℕ
 quick k = fast P G (2 ^ (32 - k))
 
--- the table by this rule holds the generators
-pub table-at : (k : ℕ) → k ≤ 32 → getD (entries quick 33 0) k 0 ≡ generatorWord k
-table-at k h = entry-at quick 33 0 k (omega arith) ∙ ap quick (zero-add k) ∙ fast-power G (2 ^ (32 - k))
+-- a word that is the rule's at a key, where the key is the entry's number
+pub at-key : {r bits k : ℕ} → bits ≡ k → r ≡ quick k → r ≡ generatorWord bits
+at-key {k = k} h q = q ∙ fast-power G (2 ^ (32 - k)) ∙ ap generatorWord (sym h)
 
 -- ---- the order of G is 2^32: G^(2^31) is not 1 yet, but -1
 

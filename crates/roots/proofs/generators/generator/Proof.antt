@@ -1,13 +1,23 @@
--- The constant of the source is the table by its rule: to see it, the checker computes the 33 powers.
-use borrow.Author.Needs.{needs}
+-- The table is the generators by their rule: to see it, the checker computes the 33 powers.
+use mathlib.Core.Path.{_≡_, refl}
+use native.Mathlib.Omega.{arith}
 use Rattle.prime.specs.Powers.{fast}
-use Rattle.roots.proofs.Generated.{table-at}
+use Rattle.words.proofs.Tables.{past-keys}
+use Rattle.roots.proofs.Generated.{at-key}
 use Rattle.roots.proofs.generators.generator.Statement.{statement}
 use Rattle.roots.proofs.generators.generator.Tie as tie
 
-returns : tie.Need-returns
+last : tie.Need-returns-33
 unfolding fast
-returns c = table-at (c .args .bits) (c .pre)
+last c = at-key (let e : c .before .args .bits ≡ 32 = omega (arith, past-keys 32 _ (c .match .rest)) in e) refl
 
 pub generator-spec : {M : Type 1} → statement M
-generator-spec = tie.close (tie.spec (λ c. search needs) (λ c. search needs) returns)
+unfolding fast
+generator-spec =
+    tie.close
+    (tie.spec (λ c. search at-key) (λ c. search at-key) (λ c. search at-key) (λ c. search at-key) (λ c. search at-key)
+    (λ c. search at-key) (λ c. search at-key) (λ c. search at-key) (λ c. search at-key) (λ c. search at-key) (λ c. search at-key)
+    (λ c. search at-key) (λ c. search at-key) (λ c. search at-key) (λ c. search at-key) (λ c. search at-key) (λ c. search at-key)
+    (λ c. search at-key) (λ c. search at-key) (λ c. search at-key) (λ c. search at-key) (λ c. search at-key) (λ c. search at-key)
+    (λ c. search at-key) (λ c. search at-key) (λ c. search at-key) (λ c. search at-key) (λ c. search at-key) (λ c. search at-key)
+    (λ c. search at-key) (λ c. search at-key) (λ c. search at-key) last)
