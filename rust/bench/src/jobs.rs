@@ -32,6 +32,8 @@ mod called {
 pub fn all() -> Vec<Job> {
     let any = |random: &mut Random| random.word();
     let exponent = |random: &mut Random| random.word() % 192;
+    let up = |x: Goldilocks, exp: Goldilocks| x.mul_2exp_u64(exp.held_word());
+    let down = |x: Goldilocks, exp: Goldilocks| x.div_2exp_u64(exp.held_word());
     vec![
         each("add, call", any, |x, y| x + y, called::add),
         each("add, in line", any, |x, y| x + y, Source::add),
@@ -43,20 +45,10 @@ pub fn all() -> Vec<Job> {
         dots::<8>(),
         dots::<64>(),
         dots::<4096>(),
-        each("mul_2exp_u64, call", exponent, |x, exp| x.mul_2exp_u64(exp.held_word()), called::mul_2exp_u64),
-        each(
-            "mul_2exp_u64, in line",
-            exponent,
-            |x, exp| x.mul_2exp_u64(exp.held_word()),
-            Source::mul_2exp_u64,
-        ),
-        each("div_2exp_u64, call", exponent, |x, exp| x.div_2exp_u64(exp.held_word()), called::div_2exp_u64),
-        each(
-            "div_2exp_u64, in line",
-            exponent,
-            |x, exp| x.div_2exp_u64(exp.held_word()),
-            Source::div_2exp_u64,
-        ),
+        each("mul_2exp_u64, call", exponent, up, called::mul_2exp_u64),
+        each("mul_2exp_u64, in line", exponent, up, Source::mul_2exp_u64),
+        each("div_2exp_u64, call", exponent, down, called::div_2exp_u64),
+        each("div_2exp_u64, in line", exponent, down, Source::div_2exp_u64),
         few("try_inverse", |x| x.try_inverse().is_ok(), |x| Source::try_inverse(x).is_ok()),
         few("try_sqrt", |x| x.try_sqrt().is_ok(), |x| Source::try_sqrt(x).is_ok()),
         encode(),

@@ -1,7 +1,7 @@
 //! Calls on which both are asked: those of the fixed list, and random ones.
 
 use crate::library::Library;
-use oracle::{edges, fixed_calls, Arithmetic, Call, Operation, Random, Source, LENGTHS};
+use oracle::{edges, fixed_calls, Arithmetic, Call, Operation, Random, Source, LENGTHS, P};
 use std::fmt::Debug;
 
 /// Asks both the calls of the fixed list. Answers how many, and hands over each that differs.
@@ -60,7 +60,10 @@ impl Inputs {
             Mul2expU64 | Div2expU64 => same_outcome(&Call::of(operation, self.word(), self.exponent())),
             TwoAdicGenerator => same_outcome(&Call::of(operation, self.exponent(), 0)),
             Slot => same_outcome(&Call::of(operation, self.word(), self.exponent())),
-            _ => same_outcome(&Call::of(operation, self.word(), self.word())),
+            _ => {
+                let x = self.word();
+                same_outcome(&Call::of(operation, x, self.beside(x)))
+            }
         }
     }
 
@@ -72,6 +75,16 @@ impl Inputs {
             1 => self.random.one_of(&self.edges),
             2 => self.random.word() >> size,
             _ => (self.random.word() >> size).wrapping_neg(),
+        }
+    }
+
+    /// A second word: now and then the first, or the other word of its element.
+    fn beside(&mut self, x: u64) -> u64 {
+        match self.random.below(8) {
+            0 => x,
+            1 if x < P => x.checked_add(P).unwrap_or(x),
+            1 => x - P,
+            _ => self.word(),
         }
     }
 

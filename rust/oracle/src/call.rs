@@ -89,14 +89,13 @@ const LENT: u8 = 0xA5;
 impl Call {
     /// An operation on two words.
     pub fn of(operation: Operation, a: u64, b: u64) -> Self {
-        Self {
-            operation,
-            a,
-            b,
-            c: 0,
-            n: 0,
-            m: 0,
-        }
+        let (c, n, m) = (0, 0, 0);
+        Self { operation, a, b, c, n, m }
+    }
+
+    /// The same on lists, or on a list and a buffer.
+    pub fn over(self, c: u64, n: usize, m: usize) -> Self {
+        Self { c, n, m, ..self }
     }
 
     /// Asks it.

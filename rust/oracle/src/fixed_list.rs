@@ -97,28 +97,17 @@ fn lists(random: &mut Random) -> Vec<(u64, u64)> {
 
 fn sums(random: &mut Random) -> Vec<Call> {
     let lists = lists(random);
-    let list = |n| {
-        lists.iter().map(move |&(a, c)| Call {
-            c,
-            n,
-            ..Call::of(SumArray, a, 0)
-        })
-    };
-    LENGTHS.iter().flat_map(|&n| list(n)).collect()
+    let of = |n| lists.iter().map(move |&(a, c)| Call::of(SumArray, a, 0).over(c, n, 0));
+    LENGTHS.iter().flat_map(|&n| of(n)).collect()
 }
 
 /// The same lists against themselves and the largest word, and lists of unequal length.
 fn dots(random: &mut Random) -> Vec<Call> {
     let lists = lists(random);
     let of = |n, m| {
-        lists.iter().flat_map(move |&(a, c)| {
-            [a, u64::MAX].map(|b| Call {
-                c,
-                n,
-                m,
-                ..Call::of(DotProduct, a, b)
-            })
-        })
+        lists
+            .iter()
+            .flat_map(move |&(a, c)| [a, u64::MAX].map(|b| Call::of(DotProduct, a, b).over(c, n, m)))
     };
     let equal = LENGTHS.iter().flat_map(|&n| of(n, n));
     let unequal = [(0, 1), (1, 0), (1, 2), (3, 2), (64, 65), (4095, 4096), (4096, 4097), (4097, 1), (0, 4097)];
@@ -127,48 +116,19 @@ fn dots(random: &mut Random) -> Vec<Call> {
 
 /// Every length with a buffer that fits, and with buffers that do not; groups out of range at the first place, the second, a middle one and the last.
 fn codings(random: &mut Random) -> Vec<Call> {
+    let both = |a, c, words, bytes| [Call::of(Encode, a, 0).over(c, words, bytes), Call::of(Decode, a, 0).over(c, bytes, words)];
     let mut calls = Vec::new();
     for &words in LENGTHS {
         let bytes = 8 * words;
-        for (a, c) in lists(random) {
-            calls.push(Call {
-                c,
-                n: words,
-                m: bytes,
-                ..Call::of(Encode, a, 0)
-            });
-            calls.push(Call {
-                c,
-                n: bytes,
-                m: words,
-                ..Call::of(Decode, a, 0)
-            });
-        }
-        for bytes in [0, bytes.saturating_sub(8), bytes.saturating_sub(1), bytes + 1] {
-            let (a, c) = (random.word(), random.word());
-            calls.push(Call {
-                c,
-                n: words,
-                m: bytes,
-                ..Call::of(Encode, a, 0)
-            });
-            calls.push(Call {
-                c,
-                n: bytes,
-                m: words,
-                ..Call::of(Decode, a, 0)
-            });
+        calls.extend(lists(random).into_iter().flat_map(|(a, c)| both(a, c, words, bytes)));
+        for other in [0, bytes.saturating_sub(8), bytes.saturating_sub(1), bytes + 1] {
+            calls.extend(both(random.word(), random.word(), words, other));
         }
         for bad in [0, 1, words / 2, words.saturating_sub(1)] {
             // the list is such that the word at this place is out of range
             let (group, c) = (random.one_of(&[P, P + 1, u64::MAX]), random.word());
             let a = group.wrapping_sub(c.wrapping_mul(bad as u64));
-            calls.push(Call {
-                c,
-                n: bytes,
-                m: words,
-                ..Call::of(Decode, a, 0)
-            });
+            calls.push(Call::of(Decode, a, 0).over(c, bytes, words));
         }
     }
     calls

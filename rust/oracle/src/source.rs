@@ -38,7 +38,13 @@ impl Source {
         Goldilocks::sum_array::<N>(all_of(input)).value
     }
 
-    /// `dot_product` of the source, the same way. Its own bound is 2^31 pairs:
+    /// `dot_product` of the source, the same way. Its own bound is 2^31 pairs, for which there is an instance,
+    ///
+    /// ```
+    /// let _: fn(&[u64], &[u64]) -> u64 = oracle::Source::dot::<{ 1 << 31 }>;
+    /// ```
+    ///
+    /// and for one more there is none:
     ///
     /// ```compile_fail
     /// let _: fn(&[u64], &[u64]) -> u64 = oracle::Source::dot::<{ (1 << 31) + 1 }>;
@@ -47,6 +53,21 @@ impl Source {
     pub fn dot<const N: usize>(lhs: &[u64], rhs: &[u64]) -> u64 {
         let (lhs, rhs) = (all_of(lhs).try_into(), all_of(rhs).try_into());
         Goldilocks::dot_product::<N>(lhs.expect("as many words as the type says"), rhs.expect("and here")).value
+    }
+
+    /// The trait `Sum`, which goes another way than `sum_array` below four words.
+    pub fn sum_trait(input: &[u64]) -> u64 {
+        all_of(input).iter().copied().sum::<Goldilocks>().value
+    }
+
+    /// The source's generator, which panics above 32.
+    pub fn generator(bits: usize) -> u64 {
+        Goldilocks::two_adic_generator(bits).value
+    }
+
+    /// The source's root in the word that it holds.
+    pub fn held_root(x: u64) -> Option<u64> {
+        of(x).try_sqrt().map(|root| root.value)
     }
 }
 
@@ -75,28 +96,6 @@ macro_rules! instances {
 instances!(
     0 1 2 3 4 5 6 7 8 9 10 11 12 13 14 15 16 17 31 32 33 63 64 65 127 128 129 255 256 257 511 512 513 1023 1024 1025 2047 2048 2049 4094 4095 4096 4097
 );
-
-impl Source {
-    /// The trait `Sum`, which goes another way than `sum_array` below four words.
-    pub fn sum_trait(input: &[u64]) -> u64 {
-        all_of(input).iter().copied().sum::<Goldilocks>().value
-    }
-
-    /// The held word of the source's inverse, by a `gcd_inner` that is not the source's.
-    pub fn held_inverse(x: u64) -> Option<u64> {
-        of(x).try_inverse().map(|inverse| inverse.value)
-    }
-
-    /// The source's generator, which panics above 32.
-    pub fn generator(bits: usize) -> u64 {
-        Goldilocks::two_adic_generator(bits).value
-    }
-
-    /// The source's root in the word that it holds.
-    pub fn held_root(x: u64) -> Option<u64> {
-        of(x).try_sqrt().map(|root| root.value)
-    }
-}
 
 impl Arithmetic for Source {
     #[inline]
