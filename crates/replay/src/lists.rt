@@ -50,7 +50,7 @@ pub(crate) fn fill_bytes(bytes: &mut [u8], n: usize, first: u64, step: u64)
 // The digest before any item.
 const START: u64 = 1;
 
-// The digest after one item more. Each step can be undone, so that different items leave different digests.
+// The digest after one item more. Each step can be undone, so that lists which differ in one item have different digests.
 fn mixed(digest: u64, item: u64) -> u64 {
     let a = digest ^ item;
     let b = a ^ (a << 13);
