@@ -13,11 +13,10 @@ use mir.Syntax.{w64}
 use mir.Val.{Fits}
 use Rattle.prime.specs.Modulus.{P}
 use Rattle.prime.specs.Lists.{Each}
-use Rattle.words.specs.Limbs.{limbs, largest}
+use Rattle.words.specs.Limbs.{largest}
 use Rattle.words.specs.Words.{Words}
 use Rattle.words.specs.Sums.{limit, total, products, lowSum, highSum}
 use Rattle.words.proofs.Products.{product-below, product-most}
-use Rattle.words.proofs.Carries.{limbs-word}
 
 -- what is known of a slice of words, by place; so entry by entry
 abbrev pub Slice : List ℕ → Type 0

@@ -1,5 +1,4 @@
 -- The loop's invariant: the room keeps its lengths. Its measure: what is left of the piece.
-use mathlib.Core.Path.{_≡_}
 use Prim.Native.Nat.{_-_, _≤_}
 use native.Mathlib.Omega.{arith}
 use borrow.Author.Needs.{needs}

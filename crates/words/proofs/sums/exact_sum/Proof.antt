@@ -42,4 +42,7 @@ returns c = total-end _ (c .before .before .loop .i) _ (omega (arith, c .join .e
 pub exact-sum-spec : {M : Type 1} → statement M
 exact-sum-spec =
     tie.close
-    (tie.spec Inv-loop μ-loop loop-holds (λ c. omega arith) (λ c. omega arith) (λ c κs. omega arith) add-low (λ c. omega arith) (λ c. omega arith) (λ c κs. omega arith) add-high (λ c. omega arith) (λ c. omega arith) loop-again join-requires returns)
+    (tie.spec Inv-loop μ-loop loop-holds
+    (λ c. omega arith) (λ c. omega arith) (λ c κs. omega arith) add-low
+    (λ c. omega arith) (λ c. omega arith) (λ c κs. omega arith) add-high
+    (λ c. omega arith) (λ c. omega arith) loop-again join-requires returns)
