@@ -3,6 +3,7 @@
 use crate::rounds::Job;
 use lichenfrock::Goldilocks;
 use oracle::{Arithmetic, Random, Source};
+use std::cell::RefCell;
 use std::hint::black_box;
 
 /// Words in a list, and calls in a timing of an operation on words.
@@ -32,23 +33,21 @@ mod called {
 pub fn all() -> Vec<Job> {
     let any = |random: &mut Random| random.word();
     let exponent = |random: &mut Random| random.word() % 192;
-    let up = |x: Goldilocks, exp: Goldilocks| x.mul_2exp_u64(exp.held_word());
-    let down = |x: Goldilocks, exp: Goldilocks| x.div_2exp_u64(exp.held_word());
     vec![
-        each("add, call", any, |x, y| x + y, called::add),
-        each("add, in line", any, |x, y| x + y, Source::add),
-        each("mul, call", any, |x, y| x * y, called::mul),
-        each("mul, in line", any, |x, y| x * y, Source::mul),
+        each("add, call", any, |x, y| x + Goldilocks::new(y), called::add),
+        each("add, in line", any, |x, y| x + Goldilocks::new(y), Source::add),
+        each("mul, call", any, |x, y| x * Goldilocks::new(y), called::mul),
+        each("mul, in line", any, |x, y| x * Goldilocks::new(y), Source::mul),
         each("square, call", any, |x, _| x.square(), |x, _| called::square(x)),
         each("square, in line", any, |x, _| x.square(), |x, _| Source::square(x)),
         sum(),
         dots::<8>(),
         dots::<64>(),
         dots::<4096>(),
-        each("mul_2exp_u64, call", exponent, up, called::mul_2exp_u64),
-        each("mul_2exp_u64, in line", exponent, up, Source::mul_2exp_u64),
-        each("div_2exp_u64, call", exponent, down, called::div_2exp_u64),
-        each("div_2exp_u64, in line", exponent, down, Source::div_2exp_u64),
+        each("mul_2exp_u64, call", exponent, Goldilocks::mul_2exp_u64, called::mul_2exp_u64),
+        each("mul_2exp_u64, in line", exponent, Goldilocks::mul_2exp_u64, Source::mul_2exp_u64),
+        each("div_2exp_u64, call", exponent, Goldilocks::div_2exp_u64, called::div_2exp_u64),
+        each("div_2exp_u64, in line", exponent, Goldilocks::div_2exp_u64, Source::div_2exp_u64),
         few("try_inverse", |x| x.try_inverse().is_ok(), |x| Source::try_inverse(x).is_ok()),
         few("try_sqrt", |x| x.try_sqrt().is_ok(), |x| Source::try_sqrt(x).is_ok()),
         encode(),
@@ -72,25 +71,29 @@ fn random_words(count: usize) -> (Vec<u64>, Vec<Goldilocks>) {
     (words, elements)
 }
 
-/// An operation on a random word and a second one, over a list.
+/// An operation on a random word and a second one, over a list into another.
 fn each(
     name: &str,
     second: impl Fn(&mut Random) -> u64,
-    ours: impl Fn(Goldilocks, Goldilocks) -> Goldilocks + 'static,
+    ours: impl Fn(Goldilocks, u64) -> Goldilocks + 'static,
     theirs: impl Fn(u64, u64) -> u64 + 'static,
 ) -> Job {
     let mut random = Random::from(1);
     let pairs: Vec<(u64, u64)> = (0..COUNT).map(|_| (random.word(), second(&mut random))).collect();
-    let elements: Vec<_> = pairs.iter().map(|&(x, y)| (Goldilocks::new(x), Goldilocks::new(y))).collect();
-    job(
-        name,
-        move || {
-            black_box(black_box(&elements).iter().fold(0, |all, &(x, y)| all ^ ours(x, y).held_word()));
-        },
-        move || {
-            black_box(black_box(&pairs).iter().fold(0, |all, &(x, y)| all ^ theirs(x, y)));
-        },
-    )
+    let elements: Vec<(Goldilocks, u64)> = pairs.iter().map(|&(x, y)| (Goldilocks::new(x), y)).collect();
+    job(name, over(elements, Goldilocks::ZERO, ours), over(pairs, 0, theirs))
+}
+
+/// Writes what a function of two gives for each pair.
+fn over<X: Copy, Y: Copy, Z: Copy>(pairs: Vec<(X, Y)>, nothing: Z, function: impl Fn(X, Y) -> Z) -> impl Fn() {
+    let answers = RefCell::new(vec![nothing; pairs.len()]);
+    move || {
+        let mut answers = answers.borrow_mut();
+        for (answer, &(x, y)) in answers.iter_mut().zip(black_box(&pairs)) {
+            *answer = function(x, y);
+        }
+        black_box(&answers);
+    }
 }
 
 /// An inverse or a root of each of a few words.

@@ -1,5 +1,5 @@
 -- Each arm of the match is the rule; the exponent of the call in the last arm is below 192, and so smaller.
-use mathlib.Core.Path.{ap, ap₂, _∙_}
+use mathlib.Core.Path.{refl, ap₂, _∙_}
 use Prim.Native.Nat.{ℕ, _<_}
 use native.Mathlib.Omega.{arith}
 use borrow.Author.Needs.{needs}
@@ -10,8 +10,7 @@ use Rattle.words.proofs.shifts.mul_2exp_u64.Kinds as kinds
 use Rattle.words.proofs.shifts.+mul_2exp_u64.Lts-mul_2exp_u64 as body
 use Rattle.words.proofs.additive.add.Reads as add
 use Rattle.words.proofs.additive.neg.Reads as neg
-use Rattle.words.proofs.product.mul.Reads as mul
-use Rattle.words.proofs.shifts.power_of_two.Reads as power-of-two
+use Rattle.words.proofs.shifts.mul_by_entry.Reads as mul-by-entry
 use Rattle.words.proofs.shifts.+mul_2exp_u64.{statement}
 use Rattle.words.proofs.shifts.+mul_2exp_u64.Tie.{close}
 use Rattle.words.specs.Words.{mulWord}
@@ -30,17 +29,13 @@ below t = and 0 kinds.ps (falls 0 kinds.ps _<_ μ t) mul-2exp-u64.Pre
 
 pub +mul-2exp-u64-spec : {M : Type 1} → statement M
 +mul-2exp-u64-spec = close μ λ t. body.spec
-    (add.Asked, add.Learnt, power-of-two.Asked, power-of-two.Learnt, mul.Asked, mul.Learnt, neg.Asked, neg.Learnt, below t, mul-2exp-u64.Post)
+    (add.Asked, add.Learnt, mul-by-entry.Asked, mul-by-entry.Learnt, neg.Asked, neg.Learnt, below t, mul-2exp-u64.Post)
     (here t) mul-2exp-u64.Post
-    (λ c κs. search needs) (λ c κs. search needs) (λ c κs. search needs)
-    (λ c κs. search needs) (λ c κs. search needs) (λ c κs. search needs)
+    (λ c κs. search needs) (λ c κs. search needs) (λ c κs. search needs) (λ c κs. search needs)
     (λ c κs. (omega arith, tt))
     (λ c. held (up-none _ _ (c .match .keys1)) (shift-up-stands _ _ (search needs)))
     (λ c. held (c .add .ensures .word ∙ up-once _ _ (c .before .match .keys2)) (shift-up-stands _ _ (search needs)))
-    (λ c. held (c .mul .ensures .word ∙ ap (mulWord _) (c .before .power-of-two .ensures) ∙ up-table _ _ (omega arith) (omega arith))
-    (shift-up-stands _ _ (search needs)))
-    (λ c. held
-    (c .mul2 .ensures .word ∙ ap₂ mulWord (c .before .before .neg .ensures .word) (c .before .power-of-two2 .ensures)
-    ∙ up-negative _ _ (omega arith) (omega arith))
+    (λ c. held (c .mul-by-entry .ensures ∙ up-table _ _ (omega arith) (omega arith)) (shift-up-stands _ _ (search needs)))
+    (λ c. held (c .mul-by-entry2 .ensures ∙ ap₂ mulWord (c .before .neg .ensures .word) refl ∙ up-negative _ _ (omega arith) (omega arith))
     (shift-up-stands _ _ (search needs)))
     (λ c. held (c .mul-2exp-u64 .ensures .word ∙ up-rest _ _) (shift-up-stands _ _ (search needs)))

@@ -1,14 +1,29 @@
--- Entry exp stands in row exp / 4, at exp % 4.
-use borrow.Author.Needs.{needs}
-use mathlib.Core.Path.{ap, _∙_}
+-- The table is 2^0 to 2^95 modulo P, by its rule.
+use mathlib.Core.Path.{_≡_, refl, sym, ap, _∙_}
+use Prim.Native.Nat.{ℕ}
 use native.Mathlib.Omega.{arith}
-use Prim.Native.Nat.{_%_}
 use Rattle.words.specs.Words.{entry}
+use Rattle.words.proofs.Tables.{past-keys}
 use Rattle.words.proofs.shifts.power_of_two.Statement.{statement}
 use Rattle.words.proofs.shifts.power_of_two.Tie as tie
 
-returns : tie.Need-returns
-returns c = c .four-powers .ensures (c .before .args .exp % 4) (omega arith) ∙ ap entry (omega arith)
+-- a word that is the rule's at a key, where the key is the entry's number
+at-key : {r exp k : ℕ} → exp ≡ k → r ≡ entry k → r ≡ entry exp
+at-key h q = q ∙ ap entry (sym h)
 
+last : tie.Need-returns-96
+last c = at-key (let e : c .before .args .exp ≡ 95 = omega (arith, past-keys 95 _ (c .match .rest)) in e) refl
+
+-- an answer for each key, and the last arm's
 pub power-of-two-spec : {M : Type 1} → statement M
-power-of-two-spec = tie.close (tie.spec (λ c κs. search needs) (λ c. search needs) (λ c. search needs) returns)
+power-of-two-spec =
+    tie.close
+    (tie.spec
+    (λ c. search at-key) (λ c. search at-key) (λ c. search at-key) (λ c. search at-key) (λ c. search at-key) (λ c. search at-key) (λ c. search at-key) (λ c. search at-key) (λ c. search at-key) (λ c. search at-key) (λ c. search at-key) (λ c. search at-key)
+    (λ c. search at-key) (λ c. search at-key) (λ c. search at-key) (λ c. search at-key) (λ c. search at-key) (λ c. search at-key) (λ c. search at-key) (λ c. search at-key) (λ c. search at-key) (λ c. search at-key) (λ c. search at-key) (λ c. search at-key)
+    (λ c. search at-key) (λ c. search at-key) (λ c. search at-key) (λ c. search at-key) (λ c. search at-key) (λ c. search at-key) (λ c. search at-key) (λ c. search at-key) (λ c. search at-key) (λ c. search at-key) (λ c. search at-key) (λ c. search at-key)
+    (λ c. search at-key) (λ c. search at-key) (λ c. search at-key) (λ c. search at-key) (λ c. search at-key) (λ c. search at-key) (λ c. search at-key) (λ c. search at-key) (λ c. search at-key) (λ c. search at-key) (λ c. search at-key) (λ c. search at-key)
+    (λ c. search at-key) (λ c. search at-key) (λ c. search at-key) (λ c. search at-key) (λ c. search at-key) (λ c. search at-key) (λ c. search at-key) (λ c. search at-key) (λ c. search at-key) (λ c. search at-key) (λ c. search at-key) (λ c. search at-key)
+    (λ c. search at-key) (λ c. search at-key) (λ c. search at-key) (λ c. search at-key) (λ c. search at-key) (λ c. search at-key) (λ c. search at-key) (λ c. search at-key) (λ c. search at-key) (λ c. search at-key) (λ c. search at-key) (λ c. search at-key)
+    (λ c. search at-key) (λ c. search at-key) (λ c. search at-key) (λ c. search at-key) (λ c. search at-key) (λ c. search at-key) (λ c. search at-key) (λ c. search at-key) (λ c. search at-key) (λ c. search at-key) (λ c. search at-key) (λ c. search at-key)
+    (λ c. search at-key) (λ c. search at-key) (λ c. search at-key) (λ c. search at-key) (λ c. search at-key) (λ c. search at-key) (λ c. search at-key) (λ c. search at-key) (λ c. search at-key) (λ c. search at-key) (λ c. search at-key) last)
