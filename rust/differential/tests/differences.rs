@@ -62,6 +62,20 @@ mod intended {
         assert_eq!(Library::try_sqrt(4), Ok(2));
     }
 
+    #[test]
+    fn neg_0_is_held_as_p() {
+        assert_eq!((Source::neg(0), Library::neg(0)), (P, P));
+        assert_eq!(Library::value(Library::neg(0)), P);
+    }
+
+    #[test]
+    fn slots() {
+        assert_eq!(Library::slot(P, 12), Ok(0));
+        assert_eq!(Library::slot(P - 1, 32), Ok(0));
+        assert_eq!(Library::slot(P + 0x1234, 8), Ok(0x34));
+        assert_eq!(Library::slot(0, 33), refused(7));
+    }
+
     /// The source's trait `Sum` and its `sum_array` go two ways below four words, and hold the same word.
     #[test]
     fn sums_below_four_words() {
