@@ -11,7 +11,7 @@
 //! | `square`, `exp_power_of_2`, `*=` | shims/p3_field | square root |
 //! | `exp_10540996611094048183` | shims/p3_field | seventh root; compared in canonical form, by which it is fixed whatever the chain |
 //! | `gcd_inner` | shims/p3_util | inverse; compared in canonical form |
-//! | `Bytes` | src/wire.rs | coding: eight bytes as they are, in place of a serde format |
+//! | `Bytes`, and `[u8; 8]` as a value of serde | src/wire.rs, shims/serde | coding: eight bytes as they are, in place of a format |
 //! | the refusals 4 to 7 | src/source.rs | where document 01 refuses what the source takes, panics at, or cannot be asked |
 
 extern crate alloc;
