@@ -84,6 +84,7 @@ mod intended {
         lists::<2>().for_each(|words| assert_eq!(Source::sum_trait(&words), Source::sum::<2>(&words), "{words:X?}"));
         lists::<3>().for_each(|words| assert_eq!(Source::sum_trait(&words), Source::sum::<3>(&words), "{words:X?}"));
     }
+
     /// The Rust crate's `Sum` adds one by one, the source's `Sum` exactly: the same word too.
     #[test]
     fn sums_by_the_trait() {

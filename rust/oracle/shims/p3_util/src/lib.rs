@@ -18,7 +18,7 @@ pub unsafe fn flatten_to_base<Base, Element>(_: Vec<Base>) -> Vec<Element> {
 /// `ROUNDS` steps of the binary GCD on any `a` and an odd `b`. The answer is (f0, g0, f1, g1) such that 2^`ROUNDS` times the `a` that is left is
 /// f0 times the first `a` plus g0 times the first `b`, and the same of the `b` that is left with f1 and g1. A factor of 2^63 goes out as -2^63.
 ///
-/// The source at hand does not have it: these steps are ours, by what `gcd_inversion` and document 02 say of it. So an inverse of the oracle is the
+/// The source at hand does not have it: these are the usual steps of a binary GCD that does what `gcd_inversion` and document 02 say of it. So an inverse of the oracle is the
 /// source's in its frame only, and no evidence on the held word of one.
 #[inline]
 pub fn gcd_inner<const ROUNDS: usize>(a: &mut u64, b: &mut u64) -> (i64, i64, i64, i64) {
