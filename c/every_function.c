@@ -74,6 +74,7 @@ static void refusable(void)
     const int64_t end = INT64_MAX - INT64_C(0x7FFFFFFF);
     uint64_t out;
     CHECK_OUT(lichenfrock_try_inverse(2, &out), LICHENFROCK_NOT_REFUSED, UINT64_C(0x7FFFFFFF80000001));
+    CHECK_OUT(lichenfrock_try_inverse(P + 1, &out), LICHENFROCK_NOT_REFUSED, 1);
     CHECK_OUT(lichenfrock_try_inverse(P, &out), LICHENFROCK_INVERSE_OF_ZERO, 0);
     CHECK_OUT(lichenfrock_try_sqrt(P - 1, &out), LICHENFROCK_NOT_REFUSED, UINT64_C(1) << 48);
     CHECK_OUT(lichenfrock_try_sqrt(P, &out), LICHENFROCK_NOT_REFUSED, 0);

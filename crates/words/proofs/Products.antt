@@ -23,8 +23,13 @@ bounded k h i e = (e, rw e (product-most k h i))
 expand : (a b c d : ℕ) → (2 ^ 32 * a + b) * (2 ^ 32 * c + d) ≡ 2 ^ 64 * (a * c) + 2 ^ 32 * (b * c + a * d) + b * d
 expand a b c d = omega arith
 
-pub by-halves : (x y : ℕ) → x * y ≡ 2 ^ 64 * (x / 2 ^ 32 * (y / 2 ^ 32)) + 2 ^ 32 * (x % 2 ^ 32 * (y / 2 ^ 32) + x / 2 ^ 32 * (y % 2 ^ 32)) + x % 2 ^ 32 * (y % 2 ^ 32)
+by-halves : (x y : ℕ) → x * y ≡ 2 ^ 64 * (x / 2 ^ 32 * (y / 2 ^ 32)) + 2 ^ 32 * (x % 2 ^ 32 * (y / 2 ^ 32) + x / 2 ^ 32 * (y % 2 ^ 32)) + x % 2 ^ 32 * (y % 2 ^ 32)
 by-halves x y = rw (div-add-mod x (2 ^ 32), div-add-mod y (2 ^ 32)) at (expand (x / 2 ^ 32) (x % 2 ^ 32) (y / 2 ^ 32) (y % 2 ^ 32))
+
+-- the steps of `mul_wide`: halves, their products, and the sum of these
+pub multiplied : (x y : ℕ) {xl xh yl yh ll lh hl hh n : ℕ} → xl ≡ x % 2 ^ 32 → xh ≡ x / 2 ^ 32 → yl ≡ y % 2 ^ 32 → yh ≡ y / 2 ^ 32
+    → ll ≡ xl * yl → lh ≡ xl * yh → hl ≡ xh * yl → hh ≡ xh * yh → n ≡ 2 ^ 64 * hh + 2 ^ 32 * (lh + hl) + ll → n ≡ x * y
+multiplied x y a b c d e f g h i = rw (i, e, f, g, h, a, b, c, d, by-halves x y)
 
 -- the sum n of four partial products: its upper limb by a ladder of carries, its low limb by sums that wrap
 module _ (n ll lh hl hh a b c d m lo : ℕ) (e : n ≡ 2 ^ 64 * hh + 2 ^ 32 * (lh + hl) + ll) where

@@ -1,14 +1,21 @@
 -- The product is that of the halves.
 use borrow.Author.Needs.{needs}
-use Rattle.words.proofs.Products.{by-halves, bounded}
+use Rattle.words.proofs.Products.{multiplied, bounded}
 use Rattle.words.proofs.product.mul_wide.Statement.{statement}
 use Rattle.words.proofs.product.mul_wide.Tie as tie
 
 returns : tie.Need-returns
 returns c =
-    let halves = c .before .before .before .before .before in
-    let start = halves .before .before .before .before in
-    bounded 64 {a = start .args .x} {b = start .args .y} (search needs) (search needs) (cc (by-halves (start .args .x) (start .args .y)))
+    let hh = c .before in
+    let hl = hh .before in
+    let lh = hl .before in
+    let ll = lh .before in
+    let y-hi = ll .before in
+    let y-lo = y-hi .before in
+    let x-hi = y-lo .before in
+    bounded 64 (search needs) (search needs)
+    (multiplied _ _ (x-hi .before .low-bits .ensures .0) (x-hi .high-bits .ensures .0) (y-lo .low-bits2 .ensures .0) (y-hi .high-bits2 .ensures .0)
+    (ll .mul-halves .ensures .0) (lh .mul-halves2 .ensures .0) (hl .mul-halves3 .ensures .0) (hh .mul-halves4 .ensures .0) (c .join .ensures))
 
 pub mul-wide-spec : {M : Type 1} → statement M
 mul-wide-spec =
