@@ -11,7 +11,7 @@
 #define NAME 26
 #define MOST 32777
 
-/* What buffers hold before they are written, in every byte. */
+/* What buffers hold before they are written, in every byte; and words and indices, so that a function which leaves them out is found out. */
 #define UNTOUCHED UINT64_C(0xA5A5A5A5A5A5A5A5)
 
 /* What a line asks: two words, a step, and two lengths. */
@@ -99,11 +99,13 @@ static bool call_with_more(const char *line, struct asked x, struct outcome *got
     } else if (named(line, "encode")) {
         fill_words(words, x.n, x.a, x.c);
         fill_bytes(x.m, UNTOUCHED, 0);
+        got->index = UNTOUCHED;
         got->number = lichenfrock_encode(words, x.n, bytes, x.m, &got->index);
         got->word = digest_of_bytes(x.m);
     } else if (named(line, "decode")) {
         fill_bytes(x.n, x.a, x.c);
         fill_words(words, x.m, UNTOUCHED, 0);
+        got->index = UNTOUCHED;
         got->number = lichenfrock_decode(bytes, x.n, words, x.m, &got->index);
         got->word = digest_of_words(x.m);
     } else {
@@ -115,15 +117,15 @@ static bool call_with_more(const char *line, struct asked x, struct outcome *got
 /* The call that a line asks for, and what it gives. False where no function has the line's name. */
 static bool call(const char *line, struct asked x, struct outcome *got)
 {
-#define WORD(operation, ...)                                 \
-    if (named(line, #operation)) {                           \
-        got->word = lichenfrock_##operation(__VA_ARGS__);    \
-        return true;                                         \
+#define WORD(operation, ...)                              \
+    if (named(line, #operation)) {                        \
+        got->word = lichenfrock_##operation(__VA_ARGS__); \
+        return true;                                      \
     }
-#define REFUSABLE(operation, ...)                                         \
-    if (named(line, #operation)) {                                        \
-        got->number = lichenfrock_##operation(__VA_ARGS__, &got->word);   \
-        return true;                                                      \
+#define REFUSABLE(operation, ...)                                       \
+    if (named(line, #operation)) {                                      \
+        got->number = lichenfrock_##operation(__VA_ARGS__, &got->word); \
+        return true;                                                    \
     }
     WORD(add, x.a, x.b)
     WORD(sub, x.a, x.b)
@@ -185,7 +187,7 @@ static size_t before_end(const char *line, size_t n)
 static bool agrees(const char *line, size_t n)
 {
     struct asked x;
-    struct outcome expected, got = {0, 0, 0};
+    struct outcome expected, got = {0, 0, UNTOUCHED};
     bool readable = n == LINE && read_line(line, &x, &expected) && call(line, x, &got);
     if (readable && got.number == expected.number && got.index == expected.index && got.word == expected.word) {
         return true;
