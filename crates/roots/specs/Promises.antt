@@ -3,14 +3,14 @@ use mathlib.Core.Path.{_≡_}
 use mathlib.Core.Bool.{not}
 use mathlib.Core.Logic.{_≢_}
 use Prim.Native.Nat.{ℕ, _*_, _%_}
-use lib.Dec.{eqb}
+use lib.Dec.{eqb, leb}
 use Rattle.prime.specs.Modulus.{P}
 use Rattle.prime.specs.Powers.{power}
 use Rattle.prime.specs.Residues.{Square}
 use Rattle.words.specs.declared.answers.Answer.{Answer}
 use Rattle.words.specs.Answers.{refusalOf, wordOf}
 use Rattle.words.specs.Promises.{Held, Answered}
-use Rattle.roots.specs.Roots.{inverseWord, seventhWord, isSquare, rootWord}
+use Rattle.roots.specs.Roots.{generatorWord, inverseWord, seventhWord, isSquare, rootWord}
 
 -- Zero is refused 2; any other x gives its inverse, whose product with x is 1.
 pub record Inverted (x : ℕ) (r : Answer) : Type 0 where
@@ -27,3 +27,7 @@ pub record Rooted (x : ℕ) (r : Answer) : Type 0 where
 pub record SeventhRoot (x r : ℕ) : Type 0 where
   pub held : Held (seventhWord x) (seventhWord x) r
   pub seventh-power : power P r 7 ≡ x % P
+
+-- The generator of 2^bits elements; above 32 bits it is refused 7.
+abbrev pub Generated : ℕ → Answer → Type 0
+Generated bits r = Answered (leb bits 32) 7 (generatorWord bits) (generatorWord bits) r

@@ -1,9 +1,8 @@
 // Generators of the two-adic subgroups. Ports `TWO_ADIC_GENERATORS` and `two_adic_generator`.
 ghost use mathlib.Core.Path.{_≡_};
 ghost use Prim.Native.Nat.{_≤_};
-ghost use lib.Dec.{leb};
-ghost use Rattle.words.specs.Promises.{Answered};
 ghost use Rattle.roots.specs.Roots.{generatorWord};
+ghost use Rattle.roots.specs.Promises.{Generated};
 use words::Answer;
 use words::Refusal;
 
@@ -52,7 +51,7 @@ pub(crate) fn generator(bits: u64) -> u64
 
 // The generator of the subgroup of 2^bits elements, for bits up to 32.
 pub fn two_adic_generator(bits: u64) -> Answer
-    ensures { λ r. ⌜ Answered (leb bits 32) 7 (generatorWord bits) (generatorWord bits) r ⌝ }
+    ensures { λ r. ⌜ Generated bits r ⌝ }
 {
     if 32 < bits {
         return Answer::Refused(Refusal::Above32);

@@ -2,12 +2,15 @@
 use mathlib.Core.Path.{_≡_}
 use mathlib.Core.Bool.{Bool, cond}
 use mathlib.Core.List.{List}
-use Prim.Native.Nat.{ℕ, _%_}
-use lib.Dec.{eqb, leb}
+use Prim.Native.Nat.{ℕ, _%_, _^_}
+use lib.Dec.{eqb, leb, ltb}
+use lib.IntN.{ℤ}
 use lib.ListN.{length}
 use Rattle.prime.specs.Modulus.{P}
 use Rattle.words.specs.declared.answers.Answer.{Answer}
 use Rattle.words.specs.Answers.{refusalOf, wordOf}
+use Rattle.words.specs.Elements.{residue}
+use Rattle.words.specs.Words.{canonical, fromI64Word, inRange}
 use Rattle.words.specs.Sums.{limit, total, sumWord, products, dotWord, dotRefusal}
 
 -- The word r is w, and stands for the element e.
@@ -33,3 +36,15 @@ Summed ws r = Answered (leb (length ws) limit) 5 (sumWord ws) (total ws % P) r
 -- The sum of the products of xs and ys, pair by pair; lists that are not paired are refused 4, and more than the limit 5.
 abbrev pub Dotted : List ℕ → List ℕ → Answer → Type 0
 Dotted xs ys r = Answered (eqb (dotRefusal xs ys) 0) (dotRefusal xs ys) (dotWord xs ys) (total (products xs ys) % P) r
+
+-- The word x where it is canonical; any other is refused 1.
+abbrev pub CheckedU64 : ℕ → Answer → Type 0
+CheckedU64 x r = Answered (ltb x P) 1 x (x % P) r
+
+-- The word of the signed number n where it is in range; any other is refused 1.
+abbrev pub CheckedI64 : ℤ → Answer → Type 0
+CheckedI64 n r = Answered (inRange n) 1 (fromI64Word n) (residue n) r
+
+-- The slot of k bits of x; above 32 bits it is refused 7.
+abbrev pub Slotted : ℕ → ℕ → Answer → Type 0
+Slotted x k r = Answered (leb k 32) 7 (canonical x % 2 ^ k) (x % P % 2 ^ k) r

@@ -1,11 +1,10 @@
 // Words from other integers. Ports `QuotientMap` for i64, u128 and u64.
 ghost use Prim.Native.Nat.{_%_};
-ghost use lib.Dec.{ltb};
 ghost use Rattle.prime.specs.Modulus.{P};
 ghost use Rattle.words.specs.Elements.{residue};
 ghost use Rattle.words.specs.Limbs.{limbs};
-ghost use Rattle.words.specs.Words.{fromI64Word, fromU128Word, inRange};
-ghost use Rattle.words.specs.Promises.{Held, Answered};
+ghost use Rattle.words.specs.Words.{fromI64Word, fromU128Word};
+ghost use Rattle.words.specs.Promises.{Held, CheckedU64, CheckedI64};
 use super::ORDER_U64;
 use super::answers::Answer;
 use super::answers::Refusal;
@@ -33,7 +32,7 @@ pub fn from_u128(lo: u64, hi: u64) -> u64
 
 // x where it is canonical; x at or above P is refused.
 pub fn from_canonical_checked_u64(x: u64) -> Answer
-    ensures { λ r. ⌜ Answered (ltb x P) 1 x (x % P) r ⌝ }
+    ensures { λ r. ⌜ CheckedU64 x r ⌝ }
 {
     if x < ORDER_U64 {
         Answer::Word(x)
@@ -49,7 +48,7 @@ const NEG_BOUND: i64 = -0x7FFF_FFFF_8000_0000;
 
 // n, or P + n where it is negative; out of range it is refused.
 pub fn from_canonical_checked_i64(int: i64) -> Answer
-    ensures { λ r. ⌜ Answered (inRange int) 1 (fromI64Word int) (residue int) r ⌝ }
+    ensures { λ r. ⌜ CheckedI64 int r ⌝ }
 {
     if int < NEG_BOUND {
         return Answer::Refused(Refusal::OutOfRange);

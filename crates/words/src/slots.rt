@@ -1,9 +1,5 @@
 // Slots of the ring: not in the Rust, added by document 01.
-ghost use Prim.Native.Nat.{_%_, _^_};
-ghost use lib.Dec.{leb};
-ghost use Rattle.prime.specs.Modulus.{P};
-ghost use Rattle.words.specs.Words.{canonical};
-ghost use Rattle.words.specs.Promises.{Answered};
+ghost use Rattle.words.specs.Promises.{Slotted};
 use super::answers::Answer;
 use super::answers::Refusal;
 use super::bits::low_bits;
@@ -11,7 +7,7 @@ use super::canonical::as_canonical_u64;
 
 // The low k bits of the canonical form, for k up to 32.
 pub fn slot(x: u64, k: u64) -> Answer
-    ensures { λ r. ⌜ Answered (leb k 32) 7 (canonical x % 2 ^ k) (x % P % 2 ^ k) r ⌝ }
+    ensures { λ r. ⌜ Slotted x k r ⌝ }
 {
     if 32 < k {
         return Answer::Refused(Refusal::Above32);
