@@ -5,8 +5,8 @@
 pub use words::ORDER_U64;
 
 // What a refusable operation answers, and 01's refusals with their numbers.
-pub use words::Answer;
-pub use words::Refusal;
+pub use answers::Answer;
+pub use answers::Refusal;
 
 // x + y, less P the fewest times that bring it below 2^64.
 pub use words::add;
@@ -23,18 +23,18 @@ pub use words::square;
 // Half of x.
 pub use words::halve;
 // The sum of up to 4,096 words.
-pub use words::sum_array;
+pub use sums::sum_array;
 // The sum of the products of up to 4,096 pairs.
-pub use words::dot_product;
+pub use sums::dot_product;
 // A signed number: n, or P + n.
 pub use words::from_i64;
 // Two limbs, canonical.
 pub use words::from_u128;
 
 // x * 2^exp, for any exponent.
-pub use words::mul_2exp_u64;
+pub use shifts::mul_2exp_u64;
 // x / 2^exp, for any exponent.
-pub use words::div_2exp_u64;
+pub use shifts::div_2exp_u64;
 
 // The element whose product with x is 1; zero has none.
 pub use roots::try_inverse;
@@ -57,7 +57,7 @@ pub use words::is_zero;
 pub use words::slot;
 
 // What coding answers: done, or a refusal and the index of the first bad group.
-pub use wire::Coded;
+pub use answers::Coded;
 // Words into a lent buffer of 8 bytes each, canonical and little-endian.
 pub use wire::encode;
 // The words of such a buffer; none is written unless every group is below P.

@@ -8,10 +8,11 @@ use native.Mathlib.Omega.{arith}
 use native.Mathlib.Nat.{mod-lt, one-mul, mul-zero, mul-suc, zero-lt-suc, pos-of-ne-zero, suc-ne-zero, suc-inj, div-add-mod}
 use native.Mathlib.Decide.{ℕ-discrete, decLe}
 use lib.Dec.{T}
-use Rattle.prime.specs.Lists.{Each, product}
+use Rattle.prime.specs.Lists.{Each}
+use Rattle.prime.proofs.Certificate.{product, pratt}
 use Rattle.prime.specs.Powers.{power}
-use Rattle.prime.specs.Residues.{Multiple, Inverse, Field, Generates}
-use Rattle.prime.specs.Certificate.{pratt}
+use Rattle.prime.specs.Residues.{Multiple}
+use Rattle.prime.proofs.Fields.{Inverse, Field, Generates}
 use Rattle.prime.proofs.Congruence.{mul-same-left, multiple-of-zero, zero-times}
 use Rattle.prime.proofs.Powers.{power-mod, power-below, power-add, power-more}
 use Rattle.prime.proofs.Order.{top, climb}

@@ -5,7 +5,8 @@ use Prim.Native.Nat.{ℕ, _*_, _%_, _<_}
 use native.Mathlib.Omega.{arith}
 use native.Mathlib.Nat.{mod-eq-of-lt, add-mul-mod-self-left, one-mul, mul-zero, mul-comm, zero-mod, mod-self, eq-of-mul-eq-mul-left, eq-one-of-dvd-one, dvd-mul-left}
 use native.Mathlib.Decide.{ℕ-discrete}
-use Rattle.prime.specs.Residues.{Multiple, Inverse, Field}
+use Rattle.prime.specs.Residues.{Multiple}
+use Rattle.prime.proofs.Fields.{Inverse, Field}
 use Rattle.prime.proofs.Congruence.{mul-same-left, mul-same-right, zero-of-multiple, multiple-of-zero}
 
 module _ (m : ℕ) (big : 1 < m) (field : Field m) where

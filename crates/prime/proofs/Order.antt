@@ -10,11 +10,13 @@ use native.Mathlib.Omega.{arith}
 use native.Mathlib.Nat.{mul-one, mul-assoc, mul-left-comm}
 use lib.Dec.{T, eqb, eqb→eq, T-not}
 use mir.Facts.{and-yes}
-use Rattle.prime.specs.Lists.{Each, product}
-use Rattle.prime.specs.Powers.{power, fast}
-use Rattle.prime.specs.Residues.{Multiple, Inverse, Field}
-use Rattle.prime.specs.Certificate.{pratt}
-use Rattle.prime.proofs.Powers.{power-times, power-more, fast-power}
+use Rattle.prime.specs.Lists.{Each}
+use Rattle.prime.proofs.Certificate.{product, pratt}
+use Rattle.prime.specs.Powers.{power}
+use Rattle.prime.proofs.Fast.{fast, fast-power}
+use Rattle.prime.specs.Residues.{Multiple}
+use Rattle.prime.proofs.Fields.{Inverse, Field}
+use Rattle.prime.proofs.Powers.{power-times, power-more}
 
 -- d·u·k = n·k·(1 + q·v), which is N / q and a multiple of N
 gathered : (q n k d c u v : ℕ) → d ≡ n * c → c * u ≡ 1 + q * v → d * (u * k) ≡ n * k + q * (n * k) * v

@@ -5,12 +5,12 @@ use native.Mathlib.Omega.{arith}
 use native.Mathlib.Nat.{pow-suc, pow-zero, mod-mod, mul-comm, mul-suc, one-mul, mul-one, mod-add-div, mod-eq-of-lt, mod-lt, lt-irrefl}
 use native.Mathlib.Numerals.{unary-clauses}
 use lib.Pow.{pow-add}
-use Rattle.prime.specs.Powers.{power, power-zero, power-suc, squaring, fast}
+use Rattle.prime.specs.Powers.{power, power-zero, power-suc}
 use Rattle.prime.proofs.Congruence.{mul-same, mul-same-right, mul-mod, zero-times}
 
 -- ---- of whole numbers
 
-pow-mul : (x i j : ℕ) → x ^ (i * j) ≡ (x ^ i) ^ j
+pub pow-mul : (x i j : ℕ) → x ^ (i * j) ≡ (x ^ i) ^ j
 pow-mul x i zero = simp unary-clauses
 pow-mul x i (suc j) =
     ap (λ (k : ℕ). x ^ k) (mul-suc i j) ∙ pow-add x (i * j) i ∙ ap (λ (y : ℕ). y * x ^ i) (pow-mul x i j) ∙ sym (pow-suc (x ^ i) j)
@@ -22,13 +22,6 @@ pow-base x y (suc e) = rw (pow-suc (x * y) e, pow-suc x e, pow-suc y e, pow-base
 pow-same : (m x y e : ℕ) → x % m ≡ y % m → x ^ e % m ≡ y ^ e % m
 pow-same m x y zero h = simp unary-clauses
 pow-same m x y (suc e) h = rw (pow-suc x e, pow-suc y e) (mul-same m _ _ _ _ (pow-same m x y e h) h)
-
-square : (x : ℕ) → x * x ≡ x ^ 2
-square x = sym (pow-suc x 1 ∙ ap (λ (y : ℕ). y * x) (pow-suc x 0 ∙ ap (λ (y : ℕ). y * x) (pow-zero x) ∙ one-mul x))
-
--- the step of repeated squaring
-pow-halved : (x e : ℕ) → x ^ (e % 2) * (x * x) ^ (e / 2) ≡ x ^ e
-pow-halved x e = rw (square x, ← pow-mul x 2 (e / 2), ← pow-add x (e % 2) (2 * (e / 2)), mod-add-div e 2)
 
 -- ---- modulo m
 
@@ -59,23 +52,6 @@ power-mul m x i j =
 
 pub power-base : (m x y e : ℕ) → power m (x * y) e ≡ power m x e * power m y e % m
 power-base m x y e = rw (power-is m (x * y) e, power-is m x e, power-is m y e, pow-base x y e) (mul-mod m (x ^ e) (y ^ e))
-
--- one squaring
-halved : (m x e : ℕ) → x ^ (e % 2) * power m (x * x % m) (e / 2) % m ≡ power m x e
-halved m x e =
-    rw (power-same m (x * x % m) (x * x) (e / 2) (mod-mod (x * x) m), power-is m (x * x) (e / 2), power-is m x e)
-    (mul-same-right m (x ^ (e % 2)) _ _ (mod-mod ((x * x) ^ (e / 2)) m) ∙ ap (λ (y : ℕ). y % m) (pow-halved x e))
-
-squaring-power : (m k x e : ℕ) → squaring m k x e ≡ power m x e
-unfolding squaring
-squaring-power m zero x e = refl
-squaring-power m (suc k) x zero = sym (power-zero m x)
-squaring-power m (suc k) x (suc e) = rw (squaring-power m k (x * x % m) (suc e / 2)) (halved m x (suc e))
-
--- the fast form is the same
-pub fast-power : (m x e : ℕ) → fast m x e ≡ power m x e
-unfolding fast
-fast-power m x e = squaring-power m 65 x e
 
 -- ---- powers of 0, and powers that are 1
 

@@ -6,8 +6,8 @@ use lib.ListN.{replicate}
 use lib.Pow.{pow-pos}
 use Rattle.prime.specs.Modulus.{P, generator}
 use Rattle.prime.specs.Lists.{Each}
-use Rattle.prime.specs.Residues.{Field, Generates}
-use Rattle.prime.specs.Certificate.{pratt, oddFactors, factors}
+use Rattle.prime.proofs.Fields.{Field, Generates}
+use Rattle.prime.proofs.Certificate.{pratt, oddFactors, factors}
 use Rattle.prime.proofs.Generator.{certified, field-of}
 
 two : Field 2

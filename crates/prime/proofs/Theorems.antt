@@ -2,16 +2,20 @@
 use mathlib.Core.Path.{_≡_, refl, sym, ap, _∙_}
 use mathlib.Core.Logic.{_⊎_, _≢_, _↔_}
 use mathlib.Core.List.{List}
-use Prim.Native.Nat.{ℕ, suc, _+_, _-_, _*_, _/_, _%_, _^_, _<_}
+use Prim.Native.Nat.{ℕ, suc, _+_, _-_, _*_, _/_, _%_, _^_, _<_, _≤_}
 use native.Mathlib.Nat.{mod-mod, mul-comm}
+use native.Mathlib.Omega.{arith}
 use lib.Dec.{eqb→eq, lit<}
 use lib.ListN.{length}
 use Rattle.prime.specs.Modulus.{P, generator, seventh}
 use Rattle.prime.specs.Lists.{Each}
-use Rattle.prime.specs.Powers.{power, power-suc, fast}
+use Rattle.prime.specs.Powers.{power, power-suc}
+use Rattle.prime.proofs.Fast.{fast}
 use Rattle.prime.specs.Residues.{Multiple, Square}
 use Rattle.prime.specs.Polynomials.{Root, Zero, Different}
 use Rattle.prime.proofs.Powers as powers
+use Rattle.prime.proofs.Fast as quick
+use Rattle.prime.proofs.Congruence.{same}
 use Rattle.prime.proofs.Inverses as inverses
 use Rattle.prime.proofs.Squares as squares
 use Rattle.prime.proofs.Polynomials as polynomials
@@ -25,7 +29,7 @@ power-is = powers.power-is P
 
 -- The fast form is the same.
 pub fast-power : (x e : ℕ) → fast P x e ≡ power P x e
-fast-power = powers.fast-power P
+fast-power = quick.fast-power P
 
 -- Exponents add.
 pub power-add : (x i j : ℕ) → power P x (i + j) ≡ power P x i * power P x j % P
@@ -42,6 +46,12 @@ power-base = powers.power-base P
 -- The base may be taken modulo P.
 pub power-rest : (x e : ℕ) → power P (x % P) e ≡ power P x e
 power-rest x e = powers.power-same P (x % P) x e (mod-mod x P)
+
+-- ---- Negatives
+
+-- P less a number is its negative.
+pub opposite : (n : ℕ) → n ≤ P → (P - n) % P ≡ (P - 1) * n % P
+opposite n h = same P (P - n) ((P - 1) * n) n 1 (omega arith)
 
 -- ---- Inverses
 

@@ -9,10 +9,10 @@ use Rattle.prime.specs.Modulus.{P, seventh}
 use Rattle.prime.specs.Powers.{power}
 use Rattle.prime.proofs.Powers.{power-mod, power-below}
 use Rattle.prime.proofs.Theorems.{inverse-power, power-of-root}
-use Rattle.words.specs.declared.answers.Refusal.the-variants.{InverseOfZero}
-use Rattle.words.specs.declared.answers.Answer.the-variants.{Word, Refused}
+use Rattle.answers.specs.declared.refusals.Refusal.the-variants.{InverseOfZero}
+use Rattle.answers.specs.declared.replies.Answer.the-variants.{Word, Refused}
 use Rattle.words.specs.Words.{canonical}
-use Rattle.words.proofs.Stands.{Stands, held, granted, refused}
+use Rattle.answers.proofs.Stands.{Stands, held, granted, refused}
 use Rattle.words.proofs.Laws.{canonical-is}
 use Rattle.roots.specs.Promises.{Inverted, SeventhRoot}
 

@@ -5,7 +5,8 @@ use native.Mathlib.Nat.{two-pow-succ}
 use native.Mathlib.Omega.{arith}
 use lib.Dec.{lit<}
 use Rattle.prime.specs.Modulus.{P}
-use Rattle.prime.specs.Powers.{power, fast}
+use Rattle.prime.specs.Powers.{power}
+use Rattle.prime.proofs.Fast.{fast}
 use Rattle.prime.proofs.Powers.{power-below, power-add}
 use Rattle.prime.proofs.Theorems.{fast-power}
 use Rattle.roots.specs.Roots.{G, generatorWord}

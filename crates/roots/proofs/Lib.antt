@@ -1,4 +1,4 @@
--- Laws of the definitions. Those above cite Canonical, Generated, SquareRootWord and Told; the rest serves the proofs here.
+-- Laws of the definitions. Those above cite Canonical, Told, Generated, SquareRootOrder and SquareRootWord; the rest serves the proofs here.
 pub mod Canonical
 pub mod Told
 pub mod Exponents

@@ -9,7 +9,8 @@ use native.Mathlib.Decide.{decLe}
 use lib.Dec.{eqb→eq}
 use lib.Pow.{pow-add}
 use Rattle.prime.specs.Modulus.{P, generator}
-use Rattle.prime.specs.Powers.{power, fast}
+use Rattle.prime.specs.Powers.{power}
+use Rattle.prime.proofs.Fast.{fast}
 use Rattle.prime.specs.Residues.{Multiple}
 use Rattle.prime.proofs.Congruence.{same, add-same, mul-same-left, mul-same-right}
 use Rattle.prime.proofs.Powers.{power-mod}

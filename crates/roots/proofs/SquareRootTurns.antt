@@ -12,10 +12,10 @@ use Rattle.prime.specs.Powers.{power, power-zero}
 use Rattle.prime.proofs.Powers.{power-same, power-mod}
 use Rattle.prime.proofs.Search.{Least}
 use Rattle.prime.proofs.Theorems.{power-mul, euler}
-use Rattle.words.specs.declared.answers.Refusal.the-variants.{NoSquareRoot}
-use Rattle.words.specs.declared.answers.Answer.the-variants.{Word, Refused}
+use Rattle.answers.specs.declared.refusals.Refusal.the-variants.{NoSquareRoot}
+use Rattle.answers.specs.declared.replies.Answer.the-variants.{Word, Refused}
 use Rattle.words.specs.Words.{canonical}
-use Rattle.words.specs.Promises.{Held}
+use Rattle.answers.specs.Promises.{Held}
 use Rattle.words.proofs.Laws.{canonical-is}
 use Rattle.roots.specs.Promises.{Rooted}
 use Rattle.roots.specs.Roots.{G, generatorWord, orderLog}

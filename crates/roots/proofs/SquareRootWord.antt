@@ -15,10 +15,10 @@ use Rattle.prime.proofs.Congruence.{mul-same, mul-mod, times-one}
 use Rattle.prime.proofs.Powers.{power-mod}
 use Rattle.prime.proofs.Theorems.{power-add}
 use Rattle.prime.proofs.Search.{least-law, least-first, least-only}
-use Rattle.words.specs.declared.answers.Refusal.the-variants.{NoSquareRoot}
-use Rattle.words.specs.declared.answers.Answer.the-variants.{Word, Refused}
-use Rattle.words.proofs.Choice.{by-eq}
-use Rattle.words.proofs.Stands.{Stands, granted, refused}
+use Rattle.answers.specs.declared.refusals.Refusal.the-variants.{NoSquareRoot}
+use Rattle.answers.specs.declared.replies.Answer.the-variants.{Word, Refused}
+use Rattle.prime.proofs.Choice.{by-eq}
+use Rattle.answers.proofs.Stands.{Stands, granted, refused}
 use Rattle.roots.specs.Promises.{Rooted}
 use Rattle.roots.specs.Roots.{G, isSquare, exponent, rootWord}
 use Rattle.roots.proofs.SquareRootOrder.{undone-once}

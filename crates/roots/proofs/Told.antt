@@ -4,10 +4,10 @@ use mathlib.Core.Bool.{Bool, true, false, not, cond}
 use Prim.Native.Nat.{ℕ, _%_}
 use lib.Dec.{eqb}
 use Rattle.prime.specs.Modulus.{P}
-use Rattle.words.specs.declared.answers.Answer.{Answer}
-use Rattle.words.specs.declared.answers.Answer.the-variants.{Word, Refused}
-use Rattle.words.specs.declared.answers.Refusal.the-variants.{InverseOfZero, NoSquareRoot}
-use Rattle.words.proofs.Told.{answered-is}
+use Rattle.answers.specs.declared.replies.Answer.{Answer}
+use Rattle.answers.specs.declared.replies.Answer.the-variants.{Word, Refused}
+use Rattle.answers.specs.declared.refusals.Refusal.the-variants.{InverseOfZero, NoSquareRoot}
+use Rattle.answers.proofs.Told.{answered-is}
 use Rattle.roots.specs.Roots.{inverseWord, isSquare, rootWord}
 use Rattle.roots.specs.Promises.{Inverted, Rooted}
 

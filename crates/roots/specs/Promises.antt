@@ -7,9 +7,9 @@ use lib.Dec.{eqb, leb}
 use Rattle.prime.specs.Modulus.{P}
 use Rattle.prime.specs.Powers.{power}
 use Rattle.prime.specs.Residues.{Square}
-use Rattle.words.specs.declared.answers.Answer.{Answer}
-use Rattle.words.specs.Answers.{refusalOf, wordOf}
-use Rattle.words.specs.Promises.{Held, Answered}
+use Rattle.answers.specs.declared.replies.Answer.{Answer}
+use Rattle.answers.specs.Answers.{refusalOf, wordOf}
+use Rattle.answers.specs.Promises.{Held, Answered}
 use Rattle.roots.specs.Roots.{generatorWord, inverseWord, seventhWord, isSquare, rootWord}
 
 -- Zero is refused 2; any other x gives its inverse, whose product with x is 1.

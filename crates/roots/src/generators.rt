@@ -3,8 +3,8 @@ ghost use mathlib.Core.Path.{_≡_};
 ghost use Prim.Native.Nat.{_≤_};
 ghost use Rattle.roots.specs.Roots.{generatorWord};
 ghost use Rattle.roots.specs.Promises.{Generated};
-use words::Answer;
-use words::Refusal;
+use answers::Answer;
+use answers::Refusal;
 
 // An entry of the table: entry 0 is 1, and each later entry squares to the one before, canonical. The compiler makes the arms of a
 // `match` a table in read-only memory, and would store a constant array to the stack at each call.

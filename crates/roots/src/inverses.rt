@@ -6,8 +6,8 @@ ghost use Rattle.prime.specs.Powers.{power};
 ghost use Rattle.roots.specs.Promises.{Inverted};
 use super::powers::exp_2_31_minus_1;
 use super::powers::link;
-use words::Answer;
-use words::Refusal;
+use answers::Answer;
+use answers::Refusal;
 use words::as_canonical_u64;
 use words::is_zero;
 

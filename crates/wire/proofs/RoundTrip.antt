@@ -10,9 +10,9 @@ use lib.Dec.{eqb, leb, ltb}
 use lib.ListN.{length, take, drop, length-append, length-drop, take-append-drop}
 use lib.Seq.{length-take-le}
 use Rattle.prime.specs.Modulus.{P}
-use Rattle.words.proofs.Choice.{by-lt}
+use Rattle.prime.proofs.Choice.{by-lt}
 use Rattle.wire.specs.Wire.{bytesOf, numberOf, elementBytes, encoded, groups, firstBad}
-use Rattle.wire.specs.Answers.{limit, reading}
+use Rattle.wire.specs.Refusals.{limit, reading}
 use Rattle.wire.proofs.Bytes.{Bytes, length-bytes, bytes-below, number-of-bytes, bytes-of-number, bytes-append, bytes-take, bytes-drop}
 
 -- ---- from words to bytes and back

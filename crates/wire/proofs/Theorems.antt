@@ -8,7 +8,7 @@ use lib.ListN.{length}
 use Rattle.prime.specs.Modulus.{P}
 use Rattle.prime.specs.Lists.{Each}
 use Rattle.wire.specs.Wire.{bytesOf, numberOf, elementBytes, encoded, groups}
-use Rattle.wire.specs.Answers.{limit, reading}
+use Rattle.wire.specs.Refusals.{limit, reading}
 use Rattle.wire.proofs.Outcomes.{reading-good}
 use Rattle.wire.proofs.RoundTrip as trip
 

@@ -1,4 +1,4 @@
 -- What the contracts of this crate speak of.
 pub mod Wire
-pub mod Answers
+pub mod Refusals
 pub mod Promises

@@ -6,7 +6,7 @@ ghost use Rattle.wire.specs.Wire.{elementBytes, numberOf};
 use words::as_canonical_u64;
 
 // The number that a byte makes with those after it, which make `rest`.
-fn join(byte: u8, rest: u64) -> u64
+fn join_byte(byte: u8, rest: u64) -> u64
     requires { ⌜ rest < 2 ^ 56 ⌝ }
     ensures { λ r. ⌜ (r ≡ byte + 256 * rest) × (r < 256 * (rest + 1)) ⌝ }
 {
@@ -18,8 +18,14 @@ pub(crate) fn read_element(bytes: &[u8]) -> u64
     requires { ⌜ length (now bytes) ≡ 8 ⌝ }
     ensures { λ r. ⌜ r ≡ numberOf (now (bytes .entry)) ⌝ }
 {
-    let hi = join(bytes[4], join(bytes[5], join(bytes[6], join(bytes[7], 0))));
-    join(bytes[0], join(bytes[1], join(bytes[2], join(bytes[3], hi))))
+    let hi = join_byte(
+        bytes[4],
+        join_byte(bytes[5], join_byte(bytes[6], join_byte(bytes[7], 0))),
+    );
+    join_byte(
+        bytes[0],
+        join_byte(bytes[1], join_byte(bytes[2], join_byte(bytes[3], hi))),
+    )
 }
 
 // The 8 bytes of x.

@@ -4,11 +4,11 @@ ghost use Prim.Native.Nat.{_*_};
 ghost use lib.ListN.{length};
 ghost use Rattle.wire.specs.Wire.{encoded, groups, firstBad};
 ghost use Rattle.wire.specs.Promises.{Encoded, Decoded};
-use super::answers::Coded;
 use super::elements::read_element;
 use super::elements::write_element;
+use answers::Coded;
+use answers::Refusal;
 use words::ORDER_U64;
-use words::Refusal;
 
 // The largest number of words that are coded at once.
 const LIMIT: usize = 4096;
@@ -66,7 +66,7 @@ pub fn encode(words: &[u64], bytes: &mut [u8]) -> Coded
         return Coded::Refused(Refusal::TooMany, 0);
     }
     if bytes.len() != 8 * words.len() {
-        return Coded::Refused(Refusal::WrongBuffer, 0);
+        return Coded::Refused(Refusal::WrongLength, 0);
     }
     write_all(words, bytes);
     Coded::Done
@@ -81,7 +81,7 @@ pub fn decode(bytes: &[u8], words: &mut [u64]) -> Coded
         return Coded::Refused(Refusal::TooMany, 0);
     }
     if bytes.len() != 8 * n {
-        return Coded::Refused(Refusal::WrongBuffer, 0);
+        return Coded::Refused(Refusal::WrongLength, 0);
     }
     let bad = first_bad(bytes, n);
     if bad < n {

@@ -7,8 +7,8 @@ use borrow.Author.Tests.{lt-ltb, le-ltb, le-leb, lt-leb}
 use Rattle.prime.specs.Modulus.{P}
 use Rattle.prime.proofs.Congruence.{same}
 use Rattle.words.specs.Words.{lessP, plusP, addWord, subWord}
-use Rattle.words.proofs.Choice.{by-lt, by-le}
-use Rattle.words.proofs.Stands.{Stands}
+use Rattle.prime.proofs.Choice.{by-lt, by-le}
+use Rattle.answers.proofs.Stands.{Stands}
 
 less-none : (n : ℕ) → n < 2 ^ 64 → lessP n ≡ n
 less-none n h = simp (lt-ltb n (2 ^ 64) h)
@@ -29,33 +29,33 @@ plus-stands a b h k = by-le (Stands ((a + (P - 1) * b) % P)) b a
 
 module _ (x y s : ℕ) (h : x < 2 ^ 64) (k : y < 2 ^ 64) (e : s ≡ (x + y) % 2 ^ 64) where
   -- a sum that wraps at most once
-  pub sum-none : x ≤ s → s ≡ lessP (x + y)
-  sum-none l = rw (less-none (x + y) (omega arith)) (omega arith)
+  pub wraps-none : x ≤ s → s ≡ lessP (x + y)
+  wraps-none l = rw (less-none (x + y) (omega arith)) (omega arith)
 
-  pub sum-one : s < x → s + (2 ^ 32 - 1) ≡ lessP (x + y)
-  sum-one l = rw (less-one (x + y) (omega arith)) (omega arith)
+  pub wraps-one : s < x → s + (2 ^ 32 - 1) ≡ lessP (x + y)
+  wraps-one l = rw (less-one (x + y) (omega arith)) (omega arith)
 
   -- `add`, whose sum wraps not at all, once or twice
   pub add-none : x ≤ s → s ≡ addWord x y
   unfolding addWord
-  add-none l = rw (← sum-none l, less-none s (omega arith))
+  add-none l = rw (← wraps-none l, less-none s (omega arith))
 
   module _ (o : ℕ) (f : o ≡ (s + (2 ^ 32 - 1)) % 2 ^ 64) (l : s < x) where
     pub add-one : s ≤ o → o ≡ addWord x y
     unfolding addWord
-    add-one m = rw (← sum-one l, less-none (s + (2 ^ 32 - 1)) (omega arith)) (omega arith)
+    add-one m = rw (← wraps-one l, less-none (s + (2 ^ 32 - 1)) (omega arith)) (omega arith)
 
     pub add-two : o < s → o + (2 ^ 32 - 1) ≡ addWord x y
     unfolding addWord
-    add-two m = rw (← sum-one l, less-one (s + (2 ^ 32 - 1)) (omega arith)) (omega arith)
+    add-two m = rw (← wraps-one l, less-one (s + (2 ^ 32 - 1)) (omega arith)) (omega arith)
 
 module _ (x y d : ℕ) (h : x < 2 ^ 64) (k : y < 2 ^ 64) (i : d < 2 ^ 64) (e : (d + y) % 2 ^ 64 ≡ x) where
   -- a difference that wraps at most once
   pub difference-none : y ≤ x → d ≡ plusP x y
   difference-none l = rw (le-leb y x l) (omega arith)
 
-  pub difference-one : x < y → d - (2 ^ 32 - 1) ≡ plusP x y
-  difference-one l = rw (lt-leb y x l) (omega arith)
+  pub difference-one : x < y → y ≤ x + P → (o : ℕ) → o < 2 ^ 64 → (o + (2 ^ 32 - 1)) % 2 ^ 64 ≡ d → o ≡ plusP x y
+  difference-one l m o j f = rw (lt-leb y x l) (omega arith)
 
   -- `sub`, whose difference wraps not at all, once or twice
   pub sub-none : y ≤ x → d ≡ subWord x y

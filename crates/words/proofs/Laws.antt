@@ -10,14 +10,16 @@ use lib.Dec.{eqb, lit<}
 use lib.Pow.{pow-pos, shr-lt}
 use Rattle.prime.specs.Modulus.{P}
 use Rattle.prime.proofs.Congruence.{same, add-same, mul-same-right}
-use Rattle.words.specs.Elements.{half}
-use Rattle.words.specs.Limbs.{limbs}
+use Rattle.prime.proofs.Theorems.{opposite}
+use Rattle.prime.proofs.Halves.{halved}
+use Rattle.prime.specs.Elements.{half}
+use Rattle.limbs.specs.Limbs.{limbs}
 use Rattle.words.specs.Words.{canonical, lessP, plusP, addWord, subWord, negWord, reduceWord, wideWord, mulWord, halveWord, fromU128Word}
-use Rattle.words.specs.Promises.{Seen}
-use Rattle.words.proofs.Choice.{by-lt, by-le, by-eq}
-use Rattle.words.proofs.Stands.{Stands, to}
+use Rattle.answers.specs.Promises.{Seen}
+use Rattle.prime.proofs.Choice.{by-lt, by-le, by-eq}
+use Rattle.answers.proofs.Stands.{Stands, to}
 use Rattle.words.proofs.Corrections.{less-below, less-element, plus-stands}
-use Rattle.words.proofs.Products.{product-below}
+use Rattle.limbs.proofs.Products.{product-below}
 
 -- the canonical form is the remainder by P
 
@@ -55,20 +57,12 @@ sub-stands x y h k = by-le (Stands ((x + (P - 1) * y) % P)) y x
     (λ t. record { below = omega arith; element = same P _ _ y 0 (omega arith) })
     (λ t. to (same P (x + P + (P - 1) * y) (x + (P - 1) * y) 0 1 (omega arith)) (plus-stands (x + P) y (omega arith) (omega arith)))
 
--- P less a number is its negative
-pub opposite : (n : ℕ) → n ≤ P → (P - n) % P ≡ (P - 1) * n % P
-opposite n h = same P (P - n) ((P - 1) * n) n 1 (omega arith)
-
 pub neg-stands : (x : ℕ) → x < 2 ^ 64 → Stands ((P - 1) * x % P) (negWord x)
 unfolding negWord
 neg-stands x h = record {
   below = omega arith;
   element = ap (λ (n : ℕ). (P - n) % P) (canonical-is x h) ∙ opposite (x % P) (omega arith) ∙ mul-same-right P (P - 1) (x % P) x (mod-mod x P);
 }
-
--- a half, by the inverse h of 2
-halved : (p h k q x : ℕ) → p + 1 ≡ 2 * h → 2 * q ≡ x + p * k → q % p ≡ x * h % p
-halved p h k q x f g = same p q (x * h) q (k * h) (omega (arith, ap (λ (n : ℕ). n * q) f, ap (λ (n : ℕ). n * h) g))
 
 pub halve-stands : (x : ℕ) → x < 2 ^ 64 → Stands (x * half % P) (halveWord x)
 unfolding halveWord

@@ -1,14 +1,12 @@
-// Sums, differences, negatives and halves. Ports `Add`, `Sub`, `Neg` and `halve`, and the two corrections that `reduce128` and the shift down
-// share with them.
-ghost use Prim.Native.Nat.{_+_, _-_, _*_, _%_, _^_, _<_, _≤_};
-ghost use mathlib.Core.Path.{_≡_};
+// Sums, differences, negatives and halves. Ports `Add`, `Sub`, `Neg` and `halve`.
+ghost use Prim.Native.Nat.{_+_, _-_, _*_, _%_};
 ghost use Rattle.prime.specs.Modulus.{P};
-ghost use Rattle.words.specs.Elements.{half};
-ghost use Rattle.words.specs.Words.{lessP, plusP, addWord, subWord, negWord, halveWord};
-ghost use Rattle.words.specs.Promises.{Held};
-use super::NEG_ORDER;
-use super::ORDER_U64;
+ghost use Rattle.prime.specs.Elements.{half};
+ghost use Rattle.words.specs.Words.{addWord, subWord, negWord, halveWord};
+ghost use Rattle.answers.specs.Promises.{Held};
 use super::canonical::as_canonical_u64;
+use super::constants::NEG_ORDER;
+use super::constants::ORDER_U64;
 use std::num::wrapping_add_u64;
 use std::num::wrapping_sub_u64;
 
@@ -64,26 +62,4 @@ pub fn halve(x: u64) -> u64
     } else {
         x / 2 + HALF_P_PLUS_1
     }
-}
-
-// x + y, less P if it is 2^64 or more. One correction is enough only where x + y < 2^64 + P.
-pub(crate) fn add_no_canonicalize_trashing_input(x: u64, y: u64) -> u64
-    requires { ⌜ x + y < 2 ^ 64 + P ⌝ }
-    ensures { λ r. ⌜ r ≡ lessP (x + y) ⌝ }
-{
-    let res_wrapped = wrapping_add_u64(x, y);
-    if x <= res_wrapped {
-        res_wrapped
-    } else {
-        res_wrapped + NEG_ORDER
-    }
-}
-
-// x - y, plus P if it is negative. One correction is enough only where y <= x + P.
-pub(crate) fn sub_once(x: u64, y: u64) -> u64
-    requires { ⌜ y ≤ x + P ⌝ }
-    ensures { λ r. ⌜ r ≡ plusP x y ⌝ }
-{
-    let taken = wrapping_sub_u64(x, y);
-    if y <= x { taken } else { taken - NEG_ORDER }
 }

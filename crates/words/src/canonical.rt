@@ -4,8 +4,8 @@ ghost use lib.Dec.{eqb};
 ghost use Rattle.prime.specs.Modulus.{P};
 ghost use Rattle.words.specs.Words.{canonical};
 ghost use Rattle.words.specs.Orders.{order};
-ghost use Rattle.words.specs.Promises.{Held, Seen};
-use super::ORDER_U64;
+ghost use Rattle.answers.specs.Promises.{Held, Seen};
+use super::constants::ORDER_U64;
 
 // x if it is below P, else x - P.
 pub fn as_canonical_u64(x: u64) -> u64

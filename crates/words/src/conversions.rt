@@ -1,15 +1,16 @@
 // Words from other integers. Ports `QuotientMap` for i64, u128 and u64.
 ghost use Prim.Native.Nat.{_%_};
 ghost use Rattle.prime.specs.Modulus.{P};
-ghost use Rattle.words.specs.Elements.{residue};
-ghost use Rattle.words.specs.Limbs.{limbs};
+ghost use Rattle.prime.specs.Elements.{residue};
+ghost use Rattle.limbs.specs.Limbs.{limbs};
 ghost use Rattle.words.specs.Words.{fromI64Word, fromU128Word};
-ghost use Rattle.words.specs.Promises.{Held, CheckedU64, CheckedI64};
-use super::ORDER_U64;
-use super::answers::Answer;
-use super::answers::Refusal;
+ghost use Rattle.answers.specs.Promises.{Held};
+ghost use Rattle.words.specs.Promises.{CheckedU64, CheckedI64};
 use super::canonical::as_canonical_u64;
+use super::constants::ORDER_U64;
 use super::product::reduce128;
+use answers::Answer;
+use answers::Refusal;
 
 // n if n is 0 or more, else P + n.
 pub fn from_i64(int: i64) -> u64

@@ -1,17 +1,14 @@
-// All that works on words and their limbs, ported from the scalar part of p3-goldilocks (`src/goldilocks.rs`), in the order of document 01.
-// A word is any u64 and stands for the element x mod P. No operation asks anything of its caller.
+// What works on words one at a time, ported from the scalar part of p3-goldilocks (`src/goldilocks.rs`), in the order of document 01. A word is any u64
+// and stands for the element x mod P. No operation asks anything of its caller.
 mod additive;
-mod answers;
-mod bits;
 mod canonical;
+mod constants;
 mod conversions;
 mod product;
-mod shifts;
 mod slots;
-mod sums;
 
-pub use answers::Answer;
-pub use answers::Refusal;
+// P.
+pub use constants::ORDER_U64;
 
 // Canonical form and comparison.
 pub use canonical::Ordering;
@@ -27,18 +24,11 @@ pub use additive::halve;
 pub use additive::neg;
 pub use additive::sub;
 
-// Products and their reduction.
+// Products and their reduction; the one correction of a difference is for the crates above, and no operation.
 pub use product::mul;
 pub use product::reduce128;
 pub use product::square;
-
-// Sums and dot products.
-pub use sums::dot_product;
-pub use sums::sum_array;
-
-// Shifts by powers of two.
-pub use shifts::div_2exp_u64;
-pub use shifts::mul_2exp_u64;
+pub use product::sub_once;
 
 // Conversions.
 pub use conversions::from_canonical_checked_i64;
@@ -48,9 +38,3 @@ pub use conversions::from_u128;
 
 // Slots.
 pub use slots::slot;
-
-// P, the Goldilocks prime: 2^64 - 2^32 + 1.
-pub const ORDER_U64: u64 = 0xFFFF_FFFF_0000_0001;
-
-// 2^64 - P, which is 2^32 - 1: to add it, wrapping, is to take P away.
-pub(crate) const NEG_ORDER: u64 = 0xFFFF_FFFF;

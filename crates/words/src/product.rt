@@ -1,57 +1,40 @@
-// Products: the full product in two limbs, its reduction, and what is made of them. Ports `mul_wide`, `reduce128`, `Mul` and `square`.
+// Products and their reduction to a word. Ports `reduce128` with its two corrections, `Mul` and `square`.
 ghost use mathlib.Core.Path.{_≡_};
 ghost use Prim.Native.Nat.{_+_, _*_, _%_, _^_, _<_, _≤_};
 ghost use Rattle.prime.specs.Modulus.{P};
-ghost use Rattle.words.specs.Limbs.{limbs, largest};
-ghost use Rattle.words.specs.Words.{reduceWord, mulWord};
-ghost use Rattle.words.specs.Promises.{Held};
-use super::NEG_ORDER;
-use super::additive::add_no_canonicalize_trashing_input;
-use super::additive::sub_once;
-use super::bits::high_bits;
-use super::bits::low_bits;
+ghost use Rattle.answers.specs.Promises.{Held};
+ghost use Rattle.limbs.specs.Limbs.{limbs};
+ghost use Rattle.words.specs.Words.{lessP, plusP, reduceWord, mulWord};
+use super::constants::NEG_ORDER;
+use limbs::high_bits;
+use limbs::mul_halves;
+use limbs::mul_wide;
 use std::num::wrapping_add_u64;
+use std::num::wrapping_sub_u64;
 
-// A number below 2^128 in two limbs, lo + 2^64 * hi: the Rust's u128.
-pub(crate) struct Limbs {
-    pub lo: u64,
-    pub hi: u64,
+// x + y, less P if it is 2^64 or more. One correction is enough only where x + y < 2^64 + P.
+fn add_no_canonicalize_trashing_input(x: u64, y: u64) -> u64
+    requires { ⌜ x + y < 2 ^ 64 + P ⌝ }
+    ensures { λ r. ⌜ r ≡ lessP (x + y) ⌝ }
+{
+    let res_wrapped = wrapping_add_u64(x, y);
+    if x <= res_wrapped {
+        res_wrapped
+    } else {
+        res_wrapped + NEG_ORDER
+    }
 }
 
-// The product of two numbers of 32 bits. Two carries of 32 bits may be added to it.
-fn mul_halves(a: u64, b: u64) -> u64
-    requires { ⌜ (a < 2 ^ 32) × (b < 2 ^ 32) ⌝ }
-    ensures { λ r. ⌜ (r ≡ a * b) × (r ≤ largest 32) ⌝ }
+// x - y, plus P if it is negative. One correction is enough only where y <= x + P.
+pub fn sub_once(x: u64, y: u64) -> u64
+    ensures { λ r. ⌜ (y ≤ x + P → r ≡ plusP x y) ⌝ }
 {
-    a * b
-}
-
-// The sum of four partial products, hh * 2^64 + (lh + hl) * 2^32 + ll. The upper limb is the ladder of the Rust's wasm arm, the low limb a
-// sum of its own: with the low limb taken from the ladder too, LLVM would not find that `mul_wide` is one multiply.
-pub(crate) fn join(ll: u64, lh: u64, hl: u64, hh: u64) -> Limbs
-    requires { ⌜ (ll ≤ largest 32) × (lh ≤ largest 32) × (hl ≤ largest 32) × (hh ≤ largest 32) ⌝ }
-    ensures { λ r. ⌜ limbs (r .lo) (r .hi) ≡ 2 ^ 64 * hh + 2 ^ 32 * (lh + hl) + ll ⌝ }
-{
-    let t0 = hl + high_bits(ll, 32);
-    let t1 = lh + low_bits(t0, 32);
-    let hi = hh + high_bits(t0, 32) + high_bits(t1, 32);
-    let lo = wrapping_add_u64(ll, wrapping_add_u64(lh, hl) << 32);
-    Limbs { lo, hi }
-}
-
-// The full product of x and y, by halves of 32 bits.
-pub(crate) fn mul_wide(x: u64, y: u64) -> Limbs
-    ensures { λ r. ⌜ (limbs (r .lo) (r .hi) ≡ x * y) × (limbs (r .lo) (r .hi) ≤ largest 64) ⌝ }
-{
-    let x_lo = low_bits(x, 32);
-    let x_hi = high_bits(x, 32);
-    let y_lo = low_bits(y, 32);
-    let y_hi = high_bits(y, 32);
-    let ll = mul_halves(x_lo, y_lo);
-    let lh = mul_halves(x_lo, y_hi);
-    let hl = mul_halves(x_hi, y_lo);
-    let hh = mul_halves(x_hi, y_hi);
-    join(ll, lh, hl, hh)
+    let taken = wrapping_sub_u64(x, y);
+    if y <= x {
+        taken
+    } else {
+        wrapping_sub_u64(taken, NEG_ORDER)
+    }
 }
 
 // lo + 2^64 * hi in one word: with hi = hh * 2^32 + hl, lo - hh + hl * (2^32 - 1), since 2^96 = -1 and 2^64 = 2^32 - 1 modulo P.
@@ -59,7 +42,7 @@ pub fn reduce128(lo: u64, hi: u64) -> u64
     ensures { λ r. ⌜ Held (reduceWord lo hi) (limbs lo hi % P) r ⌝ }
 {
     let t0 = sub_once(lo, high_bits(hi, 32));
-    let t1 = mul_halves(low_bits(hi, 32), NEG_ORDER);
+    let t1 = mul_halves(hi, NEG_ORDER);
     add_no_canonicalize_trashing_input(t0, t1)
 }
 

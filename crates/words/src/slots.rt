@@ -1,9 +1,9 @@
 // Slots of the ring: not in the Rust, added by document 01.
 ghost use Rattle.words.specs.Promises.{Slotted};
-use super::answers::Answer;
-use super::answers::Refusal;
-use super::bits::low_bits;
 use super::canonical::as_canonical_u64;
+use answers::Answer;
+use answers::Refusal;
+use limbs::low_bits;
 
 // The low k bits of the canonical form, for k up to 32.
 pub fn slot(x: u64, k: u64) -> Answer

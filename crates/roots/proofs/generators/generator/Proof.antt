@@ -1,8 +1,8 @@
 -- The table is the generators by their rule: to see it, the checker computes the 33 powers.
 use mathlib.Core.Path.{_≡_, refl}
 use native.Mathlib.Omega.{arith}
-use Rattle.prime.specs.Powers.{fast}
-use Rattle.words.proofs.Tables.{past-keys}
+use Rattle.prime.proofs.Fast.{fast}
+use Rattle.prime.proofs.Tables.{past-keys}
 use Rattle.roots.proofs.Generated.{at-key}
 use Rattle.roots.proofs.generators.generator.Statement.{statement}
 use Rattle.roots.proofs.generators.generator.Tie as tie

@@ -1,8 +1,8 @@
 -- An entry is below P, and so its own element.
 use borrow.Author.Needs.{needs}
 use borrow.Author.Tests.{le-leb, lt-leb}
-use Rattle.words.specs.declared.answers.Refusal.the-variants.{Above32}
-use Rattle.words.proofs.Stands.{granted, refused}
+use Rattle.answers.specs.declared.refusals.Refusal.the-variants.{Above32}
+use Rattle.answers.proofs.Stands.{granted, refused}
 use Rattle.roots.proofs.Canonical.{power-stands}
 use Rattle.roots.proofs.generators.two_adic_generator.Statement.{statement}
 use Rattle.roots.proofs.generators.two_adic_generator.Tie as tie

@@ -1,6 +1,6 @@
 -- A sum that wraps not at all, once or twice.
 use borrow.Author.Needs.{needs}
-use Rattle.words.proofs.Stands.{held}
+use Rattle.answers.proofs.Stands.{held}
 use Rattle.words.proofs.Laws.{add-stands}
 use Rattle.words.proofs.Corrections.{add-none, add-one, add-two}
 use Rattle.words.proofs.additive.add.Statement.{statement}

@@ -4,7 +4,7 @@ use native.Mathlib.Omega.{arith}
 use borrow.Author.Needs.{needs}
 use borrow.Author.Tests.{eq-eqb, ne-eqb}
 use Rattle.words.specs.Words.{halveWord}
-use Rattle.words.proofs.Stands.{held}
+use Rattle.answers.proofs.Stands.{held}
 use Rattle.words.proofs.Laws.{halve-stands}
 use Rattle.words.proofs.additive.halve.Statement.{statement}
 use Rattle.words.proofs.additive.halve.Tie as tie

@@ -5,7 +5,7 @@ use borrow.Author.Needs.{needs}
 use native.Mathlib.Omega.{arith}
 use Rattle.prime.specs.Modulus.{P}
 use Rattle.words.specs.Words.{negWord}
-use Rattle.words.proofs.Stands.{held}
+use Rattle.answers.proofs.Stands.{held}
 use Rattle.words.proofs.Laws.{neg-stands, canonical-is}
 use Rattle.words.proofs.additive.neg.Statement.{statement}
 use Rattle.words.proofs.additive.neg.Tie as tie

@@ -1,6 +1,6 @@
 -- A difference that wraps not at all, once or twice.
 use borrow.Author.Needs.{needs}
-use Rattle.words.proofs.Stands.{held}
+use Rattle.answers.proofs.Stands.{held}
 use Rattle.words.proofs.Laws.{sub-stands}
 use Rattle.words.proofs.Corrections.{sub-none, sub-one, sub-two}
 use Rattle.words.proofs.additive.sub.Statement.{statement}

@@ -3,8 +3,8 @@ use mathlib.Core.Path.{refl}
 use borrow.Author.Needs.{needs}
 use borrow.Author.Tests.{lt-ltb, le-ltb}
 use Rattle.prime.specs.Modulus.{P}
-use Rattle.words.specs.declared.answers.Refusal.the-variants.{OutOfRange}
-use Rattle.words.proofs.Stands.{granted, refused, itself}
+use Rattle.answers.specs.declared.refusals.Refusal.the-variants.{OutOfRange}
+use Rattle.answers.proofs.Stands.{granted, refused, itself}
 use Rattle.words.proofs.conversions.from_canonical_checked_u64.Statement.{statement}
 use Rattle.words.proofs.conversions.from_canonical_checked_u64.Tie as tie
 

@@ -1,7 +1,7 @@
 -- The number itself, or P - 1 less its bits turned over.
 use borrow.Author.Needs.{needs}
 use native.Mathlib.Omega.{arith}
-use Rattle.words.proofs.Stands.{held}
+use Rattle.answers.proofs.Stands.{held}
 use Rattle.words.proofs.Signed.{from-i64-stands, positive, negative}
 use Rattle.words.proofs.conversions.from_i64.Statement.{statement}
 use Rattle.words.proofs.conversions.from_i64.Tie as tie

@@ -2,8 +2,8 @@
 use mathlib.Core.Path.{_∙_}
 use borrow.Author.Needs.{needs}
 use Rattle.words.specs.Words.{mulWord}
-use Rattle.words.proofs.Stands.{held}
-use Rattle.words.proofs.Products.{reduce-limbs}
+use Rattle.answers.proofs.Stands.{held}
+use Rattle.words.proofs.Reductions.{reduce-limbs}
 use Rattle.words.proofs.Laws.{mul-stands}
 use Rattle.words.proofs.product.mul.Statement.{statement}
 use Rattle.words.proofs.product.mul.Tie as tie

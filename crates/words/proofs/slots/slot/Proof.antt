@@ -3,8 +3,8 @@ use mathlib.Core.Path.{ap, _∙_}
 use Prim.Native.Nat.{ℕ, _%_, _^_}
 use borrow.Author.Needs.{needs}
 use borrow.Author.Tests.{le-leb, lt-leb}
-use Rattle.words.specs.declared.answers.Refusal.the-variants.{Above32}
-use Rattle.words.proofs.Stands.{granted, refused}
+use Rattle.answers.specs.declared.refusals.Refusal.the-variants.{Above32}
+use Rattle.answers.proofs.Stands.{granted, refused}
 use Rattle.words.proofs.Laws.{slot-stands}
 use Rattle.words.proofs.slots.slot.Statement.{statement}
 use Rattle.words.proofs.slots.slot.Tie as tie

@@ -1,0 +1,3 @@
+-- Laws of the promises, for those above.
+pub mod Stands
+pub mod Told

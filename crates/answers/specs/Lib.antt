@@ -1,0 +1,3 @@
+-- What the contracts of the operations speak of.
+pub mod Answers
+pub mod Promises
