@@ -5,14 +5,16 @@ use mathlib.Core.List.{List, [], _∷_}
 use Prim.Native.Nat.{ℕ}
 use lib.Dec.{eqb}
 use lib.ListN.{length}
-use Rattle.words.specs.Words.{canonical, addWord, subWord, negWord, reduceWord, mulWord, halveWord, fromI64Word, fromU128Word, shiftUpWord, shiftDownWord}
+use Rattle.words.specs.Words.{canonical, addWord, subWord, negWord, reduceWord, mulWord, halveWord, fromI64Word, fromU128Word}
+use Rattle.shifts.specs.Shifts.{shiftUpWord, shiftDownWord}
 use Rattle.words.specs.Orders.{order}
 use Rattle.words.specs.declared.canonical.Ordering.{Ordering}
-use Rattle.words.specs.declared.answers.Answer.{Answer}
-use Rattle.words.specs.Promises.{Answered}
+use Rattle.answers.specs.declared.replies.Answer.{Answer}
+use Rattle.answers.specs.Promises.{Answered}
 use Rattle.roots.specs.Roots.{seventhWord}
-use Rattle.wire.specs.declared.answers.Coded.{Coded}
-use Rattle.wire.specs.Answers.{sizes, refusalOf as codedRefusal, indexOf}
+use Rattle.answers.specs.declared.replies.Coded.{Coded}
+use Rattle.wire.specs.Refusals.{sizes}
+use Rattle.answers.specs.Answers.{codedRefusal, indexOf}
 use Rattle.wire.specs.Promises.{Encoded}
 use Rattle.sequence.specs.Outcomes.{Outcome}
 use Rattle.calls.specs.Calls.{Call, add, sub, neg, reduce, mul, square, halve, sum, dot, from-i64, from-limbs, shift-up, shift-down, inverse, square-root, seventh-root, generator, equal, compare, is-zero, slot, encode, canonical-form, Says, refusal, figure, truth, ordering, buffer, outcome, word, answered, figured, said}

@@ -4,10 +4,10 @@
 use mathlib.Core.Path.{_≡_, refl, sym, ap₂, _∙_}
 use Prim.Native.Nat.{ℕ}
 use denote.Ref.{now}
-use Rattle.words.proofs.Told.{numbered, numbered-is, told-by}
-use Rattle.wire.specs.declared.answers.Coded.{Coded}
-use Rattle.wire.specs.declared.answers.Coded.the-variants.{Done, Refused as RefusedAt}
-use Rattle.wire.specs.Answers.{refusalOf as codedRefusal, indexOf}
+use Rattle.answers.proofs.Told.{numbered, numbered-is, told-by}
+use Rattle.answers.specs.declared.replies.Coded.{Coded}
+use Rattle.answers.specs.declared.replies.Coded.the-variants.{Done, Refused as RefusedAt}
+use Rattle.answers.specs.Answers.{codedRefusal, indexOf}
 use Rattle.goldilocks.proofs.add.Reads as add
 use Rattle.goldilocks.proofs.sub.Reads as sub
 use Rattle.goldilocks.proofs.neg.Reads as neg
@@ -35,7 +35,7 @@ use Rattle.goldilocks.proofs.as_canonical_u64.Reads as as-canonical-u64
 use Rattle.goldilocks.proofs.from_canonical_checked_u64.Reads as from-canonical-checked-u64
 use Rattle.goldilocks.proofs.from_canonical_checked_i64.Reads as from-canonical-checked-i64
 use Rattle.goldilocks.proofs.value.Reads as value
-use Rattle.words.proofs.answers.Refusal.number.Reads as number
+use Rattle.answers.proofs.refusals.Refusal.number.Reads as number
 use Rattle.calls.specs.Determined.{Fixes, Determined}
 
 -- ---- what coding answers is told by its numbers, as an answer is (Told.antt of `words`)

@@ -5,10 +5,12 @@ use Prim.Native.Nat.{ℕ, _-_, _*_, _%_, _^_}
 use native.Mathlib.Omega.{arith}
 use lib.Dec.{lit<}
 use Rattle.prime.specs.Modulus.{P}
-use Rattle.prime.specs.Powers.{power, fast}
+use Rattle.prime.specs.Powers.{power}
+use Rattle.prime.proofs.Fast.{fast}
 use Rattle.prime.proofs.Theorems.{fast-power, generator-no-square}
-use Rattle.words.specs.Words.{canonical, addWord, subWord, negWord, reduceWord, mulWord, halveWord, upWord, shiftUpWord, splitWord, downWord, shiftDownWord}
-use Rattle.words.specs.Sums.{products, dotProducts}
+use Rattle.words.specs.Words.{canonical, addWord, subWord, negWord, reduceWord, mulWord, halveWord}
+use Rattle.shifts.specs.Shifts.{upWord, shiftUpWord, splitWord, downWord, shiftDownWord}
+use Rattle.sums.specs.Sums.{products, dotProducts}
 use Rattle.roots.specs.Roots.{G, rootWord}
 use Rattle.roots.proofs.SquareRootWord.{is-square, not-square, root-is}
 use Rattle.calls.specs.Placements.{given, placements}

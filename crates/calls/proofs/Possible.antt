@@ -9,27 +9,27 @@ use lib.Dec.{eqb, leb}
 use lib.ListN.{length}
 use Rattle.prime.specs.Modulus.{P, seventh}
 use Rattle.prime.proofs.Theorems.{inverse-power, power-of-root}
-use Rattle.words.specs.declared.answers.Refusal.{Refusal}
-use Rattle.words.specs.declared.answers.Refusal.the-variants.{InverseOfZero, NoSquareRoot, LengthsDiffer, TooMany, WrongBuffer, Above32}
-use Rattle.words.specs.declared.answers.Answer.{Answer}
-use Rattle.words.specs.declared.answers.Answer.the-variants.{Word, Refused}
-use Rattle.words.specs.Answers.{number}
-use Rattle.words.specs.Sums.{limit}
+use Rattle.answers.specs.declared.refusals.Refusal.{Refusal}
+use Rattle.answers.specs.declared.refusals.Refusal.the-variants.{InverseOfZero, NoSquareRoot, LengthsDiffer, TooMany, WrongLength, Above32}
+use Rattle.answers.specs.declared.replies.Answer.{Answer}
+use Rattle.answers.specs.declared.replies.Answer.the-variants.{Word, Refused}
+use Rattle.answers.specs.Answers.{number, codedRefusal, indexOf, kept}
+use Rattle.sums.specs.Sums.{limit}
 use Rattle.words.specs.Orders.{order}
-use Rattle.words.specs.Promises.{Answered}
-use Rattle.words.proofs.Stands.{Stands, held as held-by, granted, refused}
+use Rattle.answers.specs.Promises.{Answered}
+use Rattle.answers.proofs.Stands.{Stands, held as held-by, granted, refused}
 use Rattle.words.proofs.Laws.{seen, canonical-stands, add-stands, sub-stands, neg-stands, reduce-stands, mul-stands, halve-stands, from-u128-stands, slot-stands}
-use Rattle.words.proofs.SumLaws.{sum-stands}
-use Rattle.words.proofs.PowersOfTwo.{shift-up-stands, shift-down-stands}
+use Rattle.sums.proofs.SumLaws.{sum-stands}
+use Rattle.shifts.proofs.PowersOfTwo.{shift-up-stands, shift-down-stands}
 use Rattle.words.proofs.Signed.{from-i64-stands}
 use Rattle.roots.specs.Roots.{G, inverseWord, isSquare, rootWord}
 use Rattle.roots.specs.Promises.{Inverted, Rooted}
 use Rattle.roots.proofs.Canonical.{power-stands, not-inverted}
 use Rattle.roots.proofs.SquareRootWord.{is-square, rooted, unrooted}
-use Rattle.wire.specs.declared.answers.Coded.{Coded}
-use Rattle.wire.specs.declared.answers.Coded.the-variants.{Done, Refused as RefusedAt}
+use Rattle.answers.specs.declared.replies.Coded.{Coded}
+use Rattle.answers.specs.declared.replies.Coded.the-variants.{Done, Refused as RefusedAt}
 use Rattle.wire.specs.Wire.{encoded}
-use Rattle.wire.specs.Answers.{refusalOf as codedRefusal, indexOf, sizes, kept}
+use Rattle.wire.specs.Refusals.{sizes}
 use Rattle.wire.specs.Promises.{Encoded}
 use Rattle.sequence.specs.Outcomes.{Outcome}
 use Rattle.calls.specs.Calls.{Call, add, sub, neg, reduce, mul, square, halve, sum, dot, from-i64, from-limbs, shift-up, shift-down, inverse, square-root, seventh-root, generator, equal, compare, is-zero, slot, encode, canonical-form, Says, outcome, figure}
@@ -62,7 +62,7 @@ take-root x false e = (Refused NoSquareRoot, unrooted x (λ q. false≢true (sym
 
 coding : (t u : Bool) → (r : Coded) × (codedRefusal r ≡ cond t (cond u 0 6) 5) × (indexOf r ≡ 0)
 coding true true = (Done, refl, refl)
-coding true false = (RefusedAt WrongBuffer 0, refl, refl)
+coding true false = (RefusedAt WrongLength 0, refl, refl)
 coding false u = (RefusedAt TooMany 0, refl, refl)
 
 code : (ws before : List ℕ) → (r : Coded) × (after : List ℕ) × Encoded ws before after r

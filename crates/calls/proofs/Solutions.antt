@@ -11,8 +11,8 @@ use Rattle.prime.proofs.Congruence.{same, add-same, mul-same-left, times-one}
 use Rattle.prime.proofs.Powers.{power-mod, power-below}
 use Rattle.prime.proofs.Search.{least-only}
 use Rattle.prime.proofs.Theorems.{power-is, power-of-root, root-of-power}
-use Rattle.words.specs.Elements.{half}
-use Rattle.words.proofs.PowersOfTwo.{halves-undo}
+use Rattle.prime.specs.Elements.{half}
+use Rattle.prime.proofs.Halves.{halves-undo}
 use Rattle.calls.specs.WholeNumbers.{solve, The}
 
 -- the search finds the one number that there is

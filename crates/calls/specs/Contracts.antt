@@ -5,9 +5,8 @@ use mathlib.Core.Bool.{true}
 use mathlib.Core.List.{[], _∷_, map}
 use Prim.Native.Nat.{ℕ}
 use denote.Ref.{now}
-use Rattle.words.specs.declared.answers.Answer.{Answer}
-use Rattle.words.specs.Answers.{refusalOf, wordOf}
-use Rattle.wire.specs.Answers.{refusalOf as codedRefusal, indexOf}
+use Rattle.answers.specs.declared.replies.Answer.{Answer}
+use Rattle.answers.specs.Answers.{refusalOf, wordOf, codedRefusal, indexOf}
 use Rattle.goldilocks.proofs.add.Reads as fn-add
 use Rattle.goldilocks.proofs.sub.Reads as fn-sub
 use Rattle.goldilocks.proofs.neg.Reads as fn-neg

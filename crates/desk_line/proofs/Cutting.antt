@@ -6,12 +6,12 @@ use Prim.Native.Nat.{ℕ, _*_, _≤_}
 use native.Mathlib.Omega.{arith}
 use lib.Dec.{eqb}
 use lib.ListN.{length, length-append}
-use Rattle.words.specs.declared.answers.Answer.{Answer}
-use Rattle.words.specs.declared.answers.Answer.the-variants.{Word, Refused}
+use Rattle.answers.specs.declared.replies.Answer.{Answer}
+use Rattle.answers.specs.declared.replies.Answer.the-variants.{Word, Refused}
 use Rattle.desk_line.specs.declared.desk.Desk.{Desk}
 use Rattle.desk_line.specs.Replies.{answerTo, hex, reply, text}
 use Rattle.desk_line.specs.Pieces.{begun, step, after, written}
-use Rattle.words.proofs.Choice.{by-eq}
+use Rattle.prime.proofs.Choice.{by-eq}
 use Rattle.desk_line.proofs.Readings.{length-hex}
 
 pub after-append : (d : Desk) (a b : List ℕ) → after d (a ++ b) ≡ after (after d a) b

@@ -13,7 +13,7 @@ use lib.Seq.{length-take-le, take-all, take-append-le, take-suc-set}
 use Rattle.desk_line.specs.declared.desk.Desk.{Desk}
 use Rattle.desk_line.specs.Replies.{answerTo, reply, repliesFrom}
 use Rattle.desk_line.specs.Pieces.{fresh, begun, step, after, written, last, spoken}
-use Rattle.words.proofs.Choice.{by-lt}
+use Rattle.prime.proofs.Choice.{by-lt}
 use Rattle.desk_line.proofs.Cutting.{after-append, written-append}
 use Rattle.desk_line.proofs.Shapes.{unreadable-long}
 

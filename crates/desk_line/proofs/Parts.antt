@@ -6,10 +6,10 @@ use Prim.Native.Nat.{ℕ, suc}
 use native.Mathlib.Omega.{arith}
 use lib.ListN.{length, take, drop, length-drop}
 use lib.Seq.{take-all, take-take, drop-drop}
-use Rattle.words.specs.declared.answers.Answer.{Answer}
-use Rattle.words.specs.declared.answers.Answer.the-variants.{Word, Refused}
-use Rattle.words.specs.declared.answers.Refusal.{Refusal}
-use Rattle.words.specs.declared.answers.Refusal.the-variants.{Unreadable}
+use Rattle.answers.specs.declared.replies.Answer.{Answer}
+use Rattle.answers.specs.declared.replies.Answer.the-variants.{Word, Refused}
+use Rattle.answers.specs.declared.refusals.Refusal.{Refusal}
+use Rattle.answers.specs.declared.refusals.Refusal.the-variants.{Unreadable}
 use Rattle.desk_line.specs.Replies.{same, made, spaced, wordAt, ofTwo, ofOne, two, one}
 use Rattle.desk_line.specs.Promises.{readWord}
 use Rattle.desk_line.proofs.Readings.{same-append, length-hex}

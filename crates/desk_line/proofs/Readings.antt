@@ -9,7 +9,7 @@ use lib.Dec.{eqb}
 use lib.ListN.{length, getD, take, drop, length-append, List·getD-append}
 use lib.Seq.{getD-at}
 use Rattle.desk_line.specs.Replies.{same, glyph, digit, hex, made}
-use Rattle.words.proofs.Choice.{by-test, by-lt}
+use Rattle.prime.proofs.Choice.{by-test, by-lt}
 
 -- ---- the test of two lists
 

@@ -6,12 +6,12 @@ use Prim.Native.Nat.{ℕ, suc, _^_, _<_}
 use native.Mathlib.Omega.{arith}
 use lib.ListN.{length, take, drop, length-append, length-drop, take-append-drop}
 use lib.Seq.{append-snoc, take-at, drop-at}
-use Rattle.words.specs.declared.answers.Answer.{Answer}
-use Rattle.words.specs.declared.answers.Answer.the-variants.{Refused}
-use Rattle.words.specs.declared.answers.Refusal.the-variants.{Unreadable}
+use Rattle.answers.specs.declared.replies.Answer.{Answer}
+use Rattle.answers.specs.declared.replies.Answer.the-variants.{Refused}
+use Rattle.answers.specs.declared.refusals.Refusal.the-variants.{Unreadable}
 use Rattle.desk_line.specs.Replies.{same, hex, made, spaced, wordAt, mayRefuse, ofOne, ofTwo, one, two, answerTo, add, sub, mul, neg, half, inv, root}
 use Rattle.desk_line.specs.Grammar.{Line, adds, subs, muls, negs, halves, invs, roots}
-use Rattle.words.proofs.Choice.{by-test}
+use Rattle.prime.proofs.Choice.{by-test}
 use Rattle.desk_line.proofs.Readings.{same-refl, same-true, same-length, length-hex, made-hex, made-hex-below}
 
 -- ---- a line of another length

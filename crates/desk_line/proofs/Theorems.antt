@@ -7,8 +7,8 @@ use native.Mathlib.Omega.{arith}
 use lib.Dec.{eqb}
 use lib.ListN.{length}
 use Rattle.prime.specs.Modulus.{P}
-use Rattle.words.specs.declared.answers.Answer.the-variants.{Word, Refused}
-use Rattle.words.specs.declared.answers.Refusal.the-variants.{InverseOfZero, NoSquareRoot, Unreadable}
+use Rattle.answers.specs.declared.replies.Answer.the-variants.{Word, Refused}
+use Rattle.answers.specs.declared.refusals.Refusal.the-variants.{InverseOfZero, NoSquareRoot, Unreadable}
 use Rattle.words.specs.Words.{addWord, subWord, mulWord, negWord, halveWord}
 use Rattle.roots.specs.Roots.{inverseWord, isSquare, rootWord}
 use Rattle.desk_line.specs.Replies.{same, spaced, ofTwo, mayRefuse, ofOne, add, sub, mul, neg, half, inv, root, answerTo, repliesFrom, replies}

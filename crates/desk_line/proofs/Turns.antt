@@ -10,9 +10,9 @@ use borrow.Author.Tests.{eq-eqb, ne-eqb}
 use lib.Dec.{eqb}
 use lib.ListN.{length, getD, take, drop, set, length-set, drop-of-length-le}
 use lib.Seq.{drop-cons, take-suc, take-all, drop-set-lt, getD-set-same}
-use Rattle.words.specs.declared.answers.Answer.{Answer}
-use Rattle.words.specs.declared.answers.Answer.the-variants.{Word, Refused}
-use Rattle.words.specs.declared.answers.Refusal.the-variants.{Unreadable}
+use Rattle.answers.specs.declared.replies.Answer.{Answer}
+use Rattle.answers.specs.declared.replies.Answer.the-variants.{Word, Refused}
+use Rattle.answers.specs.declared.refusals.Refusal.the-variants.{Unreadable}
 use Rattle.desk_line.specs.Replies.{same, glyph, hex, made}
 use Rattle.desk_line.specs.Promises.{readDigits, readWord}
 use Rattle.desk_line.proofs.Readings.{same-refl, same-true, glyph-below, made-hex}

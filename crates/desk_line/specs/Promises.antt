@@ -4,9 +4,9 @@ use mathlib.Core.Bool.{cond}
 use mathlib.Core.List.{List, _++_}
 use Prim.Native.Nat.{ℕ, _-_, _/_, min}
 use lib.ListN.{length, take, drop, replicate}
-use Rattle.words.specs.declared.answers.Answer.{Answer}
-use Rattle.words.specs.declared.answers.Answer.the-variants.{Word, Refused}
-use Rattle.words.specs.declared.answers.Refusal.the-variants.{Unreadable}
+use Rattle.answers.specs.declared.replies.Answer.{Answer}
+use Rattle.answers.specs.declared.replies.Answer.the-variants.{Word, Refused}
+use Rattle.answers.specs.declared.refusals.Refusal.the-variants.{Unreadable}
 use Rattle.desk_line.specs.declared.desk.Desk.{Desk}
 use Rattle.desk_line.specs.declared.desk.Fed.{Fed}
 use Rattle.desk_line.specs.declared.replies.Reply.{Reply}

@@ -5,10 +5,10 @@ use Prim.Native.Nat.{ℕ, zero, suc, _+_, _-_, _*_, _/_, _%_}
 use lib.Dec.{eqb, ltb}
 use lib.ListN.{take, drop}
 use Rattle.prime.specs.Modulus.{P}
-use Rattle.words.specs.declared.answers.Answer.{Answer}
-use Rattle.words.specs.declared.answers.Answer.the-variants.{Word, Refused}
-use Rattle.words.specs.declared.answers.Refusal.the-variants.{InverseOfZero, NoSquareRoot, Unreadable}
-use Rattle.words.specs.Answers.{number}
+use Rattle.answers.specs.declared.replies.Answer.{Answer}
+use Rattle.answers.specs.declared.replies.Answer.the-variants.{Word, Refused}
+use Rattle.answers.specs.declared.refusals.Refusal.the-variants.{InverseOfZero, NoSquareRoot, Unreadable}
+use Rattle.answers.specs.Answers.{number}
 use Rattle.words.specs.Words.{addWord, subWord, mulWord, negWord, halveWord}
 use Rattle.roots.specs.Roots.{inverseWord, isSquare, rootWord}
 

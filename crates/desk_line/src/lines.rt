@@ -1,10 +1,9 @@
 // The answer to a line. Its length alone fixes where its words stand.
 ghost use mathlib.Core.Path.{_≡_};
 ghost use lib.ListN.{length};
-ghost use Rattle.words.specs.declared.answers.Answer.the-variants.{Refused};
-ghost use Rattle.words.specs.declared.answers.Refusal.the-variants.{Unreadable};
-ghost use Rattle.desk_line.specs.Replies.{ofTwo, mayRefuse, ofOne, two, one, answerTo};
-ghost use Rattle.desk_line.specs.Replies.{same as Replies·same};
+ghost use Rattle.answers.specs.declared.replies.Answer.the-variants.{Refused};
+ghost use Rattle.answers.specs.declared.refusals.Refusal.the-variants.{Unreadable};
+ghost use Rattle.desk_line.specs.Replies.{ofTwo, mayRefuse, ofOne, two, one, answerTo, same as Replies·same};
 use super::digits::read_word;
 use goldilocks::Answer;
 use goldilocks::Refusal;

@@ -4,10 +4,9 @@ use Prim.Native.Nat.{ℕ}
 use lib.IntN.{ℤ, pos, negsuc}
 use Rattle.words.specs.declared.canonical.Ordering.{Ordering}
 use Rattle.words.specs.declared.canonical.Ordering.the-variants.{Less, Equal, Greater}
-use Rattle.words.specs.declared.answers.Answer.{Answer}
-use Rattle.words.specs.Answers.{refusalOf, wordOf}
-use Rattle.wire.specs.declared.answers.Coded.{Coded}
-use Rattle.wire.specs.Answers.{refusalOf as codedRefusal, indexOf}
+use Rattle.answers.specs.declared.replies.Answer.{Answer}
+use Rattle.answers.specs.Answers.{refusalOf, wordOf, codedRefusal, indexOf}
+use Rattle.answers.specs.declared.replies.Coded.{Coded}
 
 -- The refusal's number, 0 for none, and the word, 0 with a refusal.
 abbrev pub numberAndWord : Answer → ℕ × ℕ

@@ -2,7 +2,7 @@
 use borrow.Author.Needs.{needs}
 use mathlib.Core.Path.{_≡_, sym, ap}
 use Rattle.words.specs.declared.canonical.Ordering.{Ordering}
-use Rattle.words.specs.Promises.{Seen}
+use Rattle.answers.specs.Promises.{Seen}
 use Rattle.lichenfrock.specs.Handed.{sign, Handed}
 use Rattle.lichenfrock.proofs.lichenfrock_cmp.Statement.{statement}
 use Rattle.lichenfrock.proofs.lichenfrock_cmp.Tie as tie

@@ -4,9 +4,9 @@ use mathlib.Core.Path.{subst}
 use lib.IntN.{ℤ}
 use mir.Syntax.{w64}
 use mir.ValLaws.{toZ-ofZ}
-use Rattle.words.specs.Elements.{residue}
+use Rattle.prime.specs.Elements.{residue}
 use Rattle.words.specs.Words.{fromI64Word}
-use Rattle.words.specs.Promises.{Held}
+use Rattle.answers.specs.Promises.{Held}
 use Rattle.lichenfrock.proofs.lichenfrock_from_i64.Statement.{statement}
 use Rattle.lichenfrock.proofs.lichenfrock_from_i64.Tie as tie
 

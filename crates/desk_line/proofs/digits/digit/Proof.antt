@@ -3,7 +3,7 @@ use mathlib.Core.Path.{_≡_}
 use Prim.Native.Nat.{ℕ, _+_, _-_, _<_, _≤_}
 use native.Mathlib.Omega.{arith}
 use borrow.Author.Needs.{needs}
-use Rattle.words.proofs.Choice.{by-lt}
+use Rattle.prime.proofs.Choice.{by-lt}
 use Rattle.desk_line.specs.Replies.{glyph}
 use Rattle.desk_line.proofs.digits.digit.Statement.{statement}
 use Rattle.desk_line.proofs.digits.digit.Tie as tie

@@ -1,7 +1,7 @@
 -- The names are compared in turn: all before the one that is chosen are passed.
 use mathlib.Core.Path.{refl, ap}
 use borrow.Author.Needs.{needs}
-use Rattle.words.specs.declared.answers.Answer.the-variants.{Word}
+use Rattle.answers.specs.declared.replies.Answer.the-variants.{Word}
 use Rattle.desk_line.specs.Replies.{ofTwo}
 use Rattle.desk_line.proofs.Parts.{chosen, passed}
 use Rattle.desk_line.proofs.lines.of_two.Statement.{statement}

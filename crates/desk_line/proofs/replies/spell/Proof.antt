@@ -5,9 +5,9 @@ use Prim.Native.Nat.{ℕ}
 use native.Mathlib.Omega.{arith}
 use borrow.Author.Needs.{needs}
 use lib.ListN.{length, length-append}
-use Rattle.words.specs.declared.answers.Answer.{Answer}
-use Rattle.words.specs.declared.answers.Answer.the-variants.{Word}
-use Rattle.words.proofs.Told.{one-digit}
+use Rattle.answers.specs.declared.replies.Answer.{Answer}
+use Rattle.answers.specs.declared.replies.Answer.the-variants.{Word}
+use Rattle.answers.proofs.Told.{one-digit}
 use Rattle.desk_line.specs.Replies.{hex, text}
 use Rattle.desk_line.specs.Promises.{Says}
 use Rattle.desk_line.proofs.Readings.{length-hex}

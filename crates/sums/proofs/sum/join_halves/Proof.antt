@@ -17,4 +17,4 @@ returns c =
     joined _ _ _ _ _ (hi .before .high-bits .ensures .0) (hi .high-bits2 .ensures .0) (c .wrapping-add-u64 .ensures)
 
 pub join-halves-spec : {M : Type 1} → statement M
-join-halves-spec = tie.close (tie.spec (λ c κs. search needs) (λ c. search needs) (λ c κs. search needs) (λ c. search needs) (λ c κs. search needs) returns)
+join-halves-spec = tie.close (tie.spec (λ c κs. search needs) (λ c. search needs) (λ c κs. search needs) (λ c κs. search needs) returns)
