@@ -20,9 +20,7 @@ fn write_all(words: &[u64], bytes: &mut [u8])
 {
     let mut i = 0;
     while i < words.len() {
-        let at = 8 * i;
-        let end = at + 8;
-        write_element(words[i], &mut bytes[at..end]);
+        write_element(words[i], &mut bytes[8 * i..8 * i + 8]);
         i += 1;
     }
 }
@@ -34,9 +32,7 @@ fn first_bad(bytes: &[u8], n: usize) -> usize
 {
     let mut i = 0;
     while i < n {
-        let at = 8 * i;
-        let end = at + 8;
-        if ORDER_U64 <= read_element(&bytes[at..end]) {
+        if ORDER_U64 <= read_element(&bytes[8 * i..8 * i + 8]) {
             return i;
         }
         i += 1;
@@ -51,9 +47,7 @@ fn read_all(bytes: &[u8], words: &mut [u64])
 {
     let mut i = 0;
     while i < words.len() {
-        let at = 8 * i;
-        let end = at + 8;
-        words[i] = read_element(&bytes[at..end]);
+        words[i] = read_element(&bytes[8 * i..8 * i + 8]);
         i += 1;
     }
 }

@@ -18,7 +18,7 @@ first-bad-spec =
     tie.close
     (tie.spec Inv-loop μ-loop
     (λ c. passed-none _ _)
-    (λ c. search needs) (λ c. search needs) (λ c. search needs) (λ c. search needs) (λ c. search needs)
+    (λ c. search needs) (λ c. search needs) (λ c. search needs) (λ c. search needs) (λ c. search needs) (λ c. search needs)
     (λ c κs. simp (length-take, length-drop) (omega arith))
     (λ c. bad-next (c .before .before .before .before .loop .inv) (search needs) (c .before .read-element .ensures) (search needs))
     (λ c. search needs) (λ c. search needs)

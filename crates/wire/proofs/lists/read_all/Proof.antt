@@ -21,7 +21,7 @@ read-all-spec =
     tie.close
     (tie.spec Inv-loop μ-loop
     (λ c. begun refl refl)
-    (λ c. search needs) (λ c. search needs) (λ c. search needs) (λ c. search needs) (λ c. search needs)
+    (λ c. search needs) (λ c. search needs) (λ c. search needs) (λ c. search needs) (λ c. search needs) (λ c. search needs)
     (λ c κs. simp (length-take, length-drop) (omega arith))
     (λ c. search needs) (λ c. search needs) (λ c. search needs) (λ c. search needs)
     (λ c. groups-turn _ _ _ (search needs) (c .read-element .ensures) (c .before .before .before .loop .inv))

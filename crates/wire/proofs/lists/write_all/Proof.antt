@@ -21,7 +21,7 @@ write-all-spec =
     tie.close
     (tie.spec Inv-loop μ-loop
     (λ c. begun (search needs) refl)
-    (λ c. search needs) (λ c. search needs) (λ c. search needs) (λ c. search needs) (λ c. search needs) (λ c. search needs) (λ c. search needs)
+    (λ c. search needs) (λ c. search needs) (λ c. search needs) (λ c. search needs) (λ c. search needs) (λ c. search needs) (λ c. search needs) (λ c. search needs)
     (λ c κs. simp (length-take, length-drop) (omega arith))
     (λ c. search needs) (λ c. search needs)
     (λ c. words-turn _ _ (search needs) (c .before .before .write-element .ensures) (c .before .before .before .before .before .before .loop .inv))
