@@ -7,7 +7,10 @@
 
 #define P LICHENFROCK_ORDER_U64
 #define MAX UINT64_MAX
-#define MANY 4097
+
+/* One more than the most words or pairs of a sum or a dot product, and than the most words of a coding. */
+#define MANY_SUMMED 4097
+#define MANY_CODED 4097
 
 static unsigned checks, failures;
 
@@ -92,41 +95,41 @@ static void refusable(void)
 
 static void lists(void)
 {
-    static uint64_t ones[MANY];
+    static uint64_t ones[MANY_SUMMED];
     const uint64_t large[2] = {MAX, MAX};
     uint64_t out;
-    for (size_t i = 0; i < MANY; i++) {
+    for (size_t i = 0; i < MANY_SUMMED; i++) {
         ones[i] = 1;
     }
     CHECK_OUT(lichenfrock_sum_array(ones, 0, &out), LICHENFROCK_NOT_REFUSED, 0);
     CHECK_OUT(lichenfrock_sum_array(large, 2, &out), LICHENFROCK_NOT_REFUSED, UINT64_C(0x1FFFFFFFC));
-    CHECK_OUT(lichenfrock_sum_array(ones, MANY - 1, &out), LICHENFROCK_NOT_REFUSED, MANY - 1);
-    CHECK_OUT(lichenfrock_sum_array(ones, MANY, &out), LICHENFROCK_TOO_MANY, 0);
+    CHECK_OUT(lichenfrock_sum_array(ones, MANY_SUMMED - 1, &out), LICHENFROCK_NOT_REFUSED, MANY_SUMMED - 1);
+    CHECK_OUT(lichenfrock_sum_array(ones, MANY_SUMMED, &out), LICHENFROCK_TOO_MANY, 0);
     CHECK_OUT(lichenfrock_dot_product(large, 2, large, 2, &out), LICHENFROCK_NOT_REFUSED, UINT64_C(0xFFFFFFF900000007));
-    CHECK_OUT(lichenfrock_dot_product(ones, MANY - 1, ones, MANY - 1, &out), LICHENFROCK_NOT_REFUSED, P + MANY - 1);
-    CHECK_OUT(lichenfrock_dot_product(ones, MANY, ones, MANY, &out), LICHENFROCK_TOO_MANY, 0);
-    CHECK_OUT(lichenfrock_dot_product(ones, MANY, ones, 1, &out), LICHENFROCK_LENGTHS_DIFFER, 0);
+    CHECK_OUT(lichenfrock_dot_product(ones, MANY_SUMMED - 1, ones, MANY_SUMMED - 1, &out), LICHENFROCK_NOT_REFUSED, P + MANY_SUMMED - 1);
+    CHECK_OUT(lichenfrock_dot_product(ones, MANY_SUMMED, ones, MANY_SUMMED, &out), LICHENFROCK_TOO_MANY, 0);
+    CHECK_OUT(lichenfrock_dot_product(ones, MANY_SUMMED, ones, 1, &out), LICHENFROCK_LENGTHS_DIFFER, 0);
 }
 
 static void coding(void)
 {
     static const uint8_t written[16] = {1, 0, 0, 0, 0, 0, 0, 0, 0, 0, 0, 0, 0xFF, 0xFF, 0xFF, 0xFF};
-    static uint8_t many_bytes[8 * MANY];
-    static uint64_t many[MANY];
+    static uint8_t many_bytes[8 * MANY_CODED];
+    static uint64_t many[MANY_CODED];
     uint64_t two[2] = {P + 1, P - 1}, read[2] = {5, 5}, out;
     uint8_t bytes[16] = {0}, kept[16];
 
     CHECK_OUT(lichenfrock_encode(two, 2, bytes, 16, &out), LICHENFROCK_NOT_REFUSED, 0);
     CHECK(memcmp(bytes, written, 16) == 0, true);
     CHECK_OUT(lichenfrock_encode(two, 1, bytes, 16, &out), LICHENFROCK_WRONG_BUFFER, 0);
-    CHECK_OUT(lichenfrock_encode(many, MANY, many_bytes, sizeof many_bytes, &out), LICHENFROCK_TOO_MANY, 0);
+    CHECK_OUT(lichenfrock_encode(many, MANY_CODED, many_bytes, sizeof many_bytes, &out), LICHENFROCK_TOO_MANY, 0);
     CHECK(memcmp(bytes, written, 16) == 0, true);
 
     bytes[8] = 1;
     memcpy(kept, bytes, 16);
     CHECK_OUT(lichenfrock_decode(bytes, 16, read, 2, &out), LICHENFROCK_OUT_OF_RANGE, 1);
     CHECK_OUT(lichenfrock_decode(bytes, 15, read, 2, &out), LICHENFROCK_WRONG_BUFFER, 0);
-    CHECK_OUT(lichenfrock_decode(many_bytes, sizeof many_bytes, many, MANY, &out), LICHENFROCK_TOO_MANY, 0);
+    CHECK_OUT(lichenfrock_decode(many_bytes, sizeof many_bytes, many, MANY_CODED, &out), LICHENFROCK_TOO_MANY, 0);
     CHECK(read[0], 5);
     CHECK(read[1], 5);
     CHECK_OUT(lichenfrock_decode(written, 16, read, 2, &out), LICHENFROCK_NOT_REFUSED, 0);

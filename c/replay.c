@@ -7,7 +7,7 @@
 #include <string.h>
 
 /* The bytes of a line, the last of them its end, those of its name, and the most words or bytes that a list may have. */
-#define LINE 112
+#define LINE 113
 #define NAME 26
 #define MOST 32777
 
@@ -172,11 +172,11 @@ static bool read_line(const char *line, struct asked *x, struct outcome *expecte
 {
     return read_column(line, 26, 43, &x->a) && read_column(line, 43, 60, &x->b) && read_column(line, 60, 77, &x->c)
         && read_column(line, 77, 82, &x->n) && x->n <= MOST && read_column(line, 82, 87, &x->m) && x->m <= MOST
-        && read_column(line, 87, 89, &expected->number) && read_column(line, 89, 94, &expected->index)
-        && read_column(line, 94, 111, &expected->word) && line[LINE - 1] == '\n';
+        && read_column(line, 87, 90, &expected->number) && read_column(line, 90, 95, &expected->index)
+        && read_column(line, 95, 112, &expected->word) && line[LINE - 1] == '\n';
 }
 
-/* How many of a line's n bytes stand before its end: never the last of 112, where the end belongs. */
+/* How many of a line's n bytes stand before its end: never the last of a whole line, where the end belongs. */
 static size_t before_end(const char *line, size_t n)
 {
     const char *end = memchr(line, '\n', n);
@@ -194,7 +194,7 @@ static bool agrees(const char *line, size_t n)
     }
     fwrite(line, 1, before_end(line, n), stdout);
     if (readable) {
-        printf(" got %" PRIX64 " %04" PRIX64 " %016" PRIX64 "\n", got.number, got.index, got.word);
+        printf(" got %02" PRIX64 " %04" PRIX64 " %016" PRIX64 "\n", got.number, got.index, got.word);
     } else {
         printf(" unreadable\n");
     }

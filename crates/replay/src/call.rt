@@ -45,7 +45,7 @@ use goldilocks::try_sqrt;
 use goldilocks::two_adic_generator;
 use goldilocks::value;
 
-// The most words or bytes that a list may have: 8 bytes for each of the most words that a limit is tested with, 4,097, and one more.
+// The most words or bytes that a list may have: 8 bytes for each of the most words that the limit of coding is tested with, 4,097, and one more.
 const MOST: u64 = 32777;
 
 // 2^63, the first word that stands for a negative number.

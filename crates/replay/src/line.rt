@@ -3,6 +3,7 @@ ghost use mathlib.Core.Path.{_≡_};
 ghost use Prim.Native.Nat.{_<_, _≤_};
 ghost use lib.ListN.{length};
 ghost use Rattle.io.specs.Counts.{Counts};
+ghost use Rattle.replay.specs.Room.{lineBytes};
 use super::outcome::Answered;
 use super::outcome::Outcome;
 use desk_line::digit;
@@ -10,7 +11,7 @@ use goldilocks::Answer;
 use goldilocks::Refusal;
 
 // The bytes of a line, the last of them its end.
-pub(crate) const LINE: usize = 112;
+pub(crate) const LINE: usize = 113;
 
 // The byte that ends a line.
 pub(crate) const LINE_END: u8 = 10;
@@ -35,7 +36,7 @@ pub(crate) enum Asked {
 
 // How many bytes the name has, without the spaces behind it.
 pub(crate) fn name_length(line: &[u8]) -> usize
-    requires { ⌜ length (now line) ≡ 112 ⌝ }
+    requires { ⌜ length (now line) ≡ lineBytes ⌝ }
     ensures { λ r. ⌜ Counts r (now (line .entry)) ⌝ }
 {
     let mut n = NAME;
@@ -70,7 +71,7 @@ fn read_column(line: &[u8], at: usize, end: usize) -> Answer
 
 // The columns of the arguments.
 pub(crate) fn read_arguments(line: &[u8]) -> Asked
-    requires { ⌜ length (now line) ≡ 112 ⌝ }
+    requires { ⌜ length (now line) ≡ lineBytes ⌝ }
 {
     let Answer::Word(a) = read_column(line, 26, 43) else {
         return Asked::Unreadable;
@@ -92,18 +93,18 @@ pub(crate) fn read_arguments(line: &[u8]) -> Asked
 
 // The columns of what the Rust answered, and the line's end.
 pub(crate) fn read_outcome(line: &[u8]) -> Answered
-    requires { ⌜ length (now line) ≡ 112 ⌝ }
+    requires { ⌜ length (now line) ≡ lineBytes ⌝ }
 {
-    let Answer::Word(number) = read_column(line, 87, 89) else {
+    let Answer::Word(number) = read_column(line, 87, 90) else {
         return Answered::Unreadable;
     };
-    let Answer::Word(index) = read_column(line, 89, 94) else {
+    let Answer::Word(index) = read_column(line, 90, 95) else {
         return Answered::Unreadable;
     };
-    let Answer::Word(word) = read_column(line, 94, 111) else {
+    let Answer::Word(word) = read_column(line, 95, 112) else {
         return Answered::Unreadable;
     };
-    if line[111] != LINE_END {
+    if line[112] != LINE_END {
         return Answered::Unreadable;
     }
     Answered::With(Outcome {

@@ -6,7 +6,7 @@ ghost use mathlib.Core.Path.{_≡_};
 ghost use Prim.Native.Nat.{_+_, _%_, _^_};
 ghost use lib.ListN.{length};
 ghost use Rattle.io.specs.Counts.{Counts};
-ghost use Rattle.replay.specs.Room.{Room};
+ghost use Rattle.replay.specs.Room.{Room, lineBytes, pieceBytes};
 
 mod call;
 mod line;
@@ -27,6 +27,9 @@ use outcome::Answered;
 use outcome::Outcome;
 use outcome::alike;
 use std::num::wrapping_add_u64;
+
+// The bytes of the piece of the input that is read at a time, 512 lines.
+const PIECE: usize = 512 * LINE;
 
 // How many lines agree and how many do not, and whether to go on.
 struct Tally {
@@ -82,7 +85,7 @@ fn write(bytes: &[u8]) -> bool {
     done
 }
 
-// How many of a line's bytes stand before its end: all, where it has none, but never the last of 112, where the end belongs.
+// How many of a line's bytes stand before its end: all, where it has none, but never the last of a whole line, where the end belongs.
 fn before_end(line: &[u8]) -> usize
     ensures { λ r. ⌜ Counts r (now (line .entry)) ⌝ }
 {
@@ -113,7 +116,7 @@ fn differs(line: &[u8], got: Outcome, tally: Tally) -> Tally {
     let word = spell_word(got.word);
     let said = write(&line[..n])
         && write(b" got ")
-        && write(&number[15..16])
+        && write(&number[14..16])
         && write(b" ")
         && write(&index[12..16])
         && write(b" ")
@@ -129,7 +132,7 @@ fn judge(
     others: &mut [u64],
     bytes: &mut [u8],
 ) -> Tally
-    requires { ⌜ (length (now line) ≡ 112) × Room (now words) (now others) (now bytes) ⌝ }
+    requires { ⌜ (length (now line) ≡ lineBytes) × Room (now words) (now others) (now bytes) ⌝ }
     ensures { λ r. ⌜ Room (now (words .exit)) (now (others .exit)) (now (bytes .exit)) ⌝ }
 {
     let Asked::With(arguments) = read_arguments(line) else {
@@ -222,8 +225,8 @@ fn turn(
     others: &mut [u64],
     bytes: &mut [u8],
 ) -> Tally
-    requires { ⌜ (length (now piece) ≡ 57344) × Room (now words) (now others) (now bytes) ⌝ }
-    ensures { λ r. ⌜ (length (now (piece .exit)) ≡ 57344) × Room (now (words .exit)) (now (others .exit)) (now (bytes .exit)) ⌝ }
+    requires { ⌜ (length (now piece) ≡ pieceBytes) × Room (now words) (now others) (now bytes) ⌝ }
+    ensures { λ r. ⌜ (length (now (piece .exit)) ≡ pieceBytes) × Room (now (words .exit)) (now (others .exit)) (now (bytes .exit)) ⌝ }
 {
     let filled = fill(piece);
     if filled.failed {
@@ -245,7 +248,7 @@ fn turn(
 // Takes turns to the end of the input. A proved loop has to end, and nothing says that an input does: this one counts down from a number that
 // no run uses up.
 fn run(piece: &mut [u8], words: &mut [u64], others: &mut [u64], bytes: &mut [u8])
-    requires { ⌜ (length (now piece) ≡ 57344) × Room (now words) (now others) (now bytes) ⌝ }
+    requires { ⌜ (length (now piece) ≡ pieceBytes) × Room (now words) (now others) (now bytes) ⌝ }
 {
     let mut tally = Tally::new();
     let mut turns = u64::MAX;
@@ -258,11 +261,11 @@ fn run(piece: &mut [u8], words: &mut [u64], others: &mut [u64], bytes: &mut [u8]
     }
 }
 
-// Room for 512 lines.
-fn lines_room() -> [u8; 57344]
-    ensures { λ r. ⌜ 57344 ≡ length r ⌝ }
+// Room for a piece.
+fn piece_room() -> [u8; PIECE]
+    ensures { λ r. ⌜ pieceBytes ≡ length r ⌝ }
 {
-    [0; 57344]
+    [0; PIECE]
 }
 
 // Room for the longest list of words.
@@ -280,7 +283,7 @@ fn bytes_room() -> [u8; 32777]
 }
 
 fn main() {
-    let mut piece = lines_room();
+    let mut piece = piece_room();
     let mut words = words_room();
     let mut others = words_room();
     let mut bytes = bytes_room();

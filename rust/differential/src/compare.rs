@@ -1,7 +1,7 @@
 //! Calls on which both are asked: those of the fixed list, and random ones.
 
 use crate::library::Library;
-use oracle::{edges, fixed_calls, Arithmetic, Call, Operation, Random, Source, LENGTHS, P};
+use oracle::{coding_lengths, edges, fixed_calls, Arithmetic, Call, Operation, Random, Source, LENGTHS, P};
 use std::fmt::Debug;
 
 /// Asks both the calls of the fixed list. Answers how many, and hands over each that differs.
@@ -101,21 +101,21 @@ impl Inputs {
         }
     }
 
-    /// Mostly a short one, since a long one takes as long as a thousand other calls.
-    fn length(&mut self) -> usize {
-        let lengths = if self.random.below(16) == 0 { LENGTHS } else { &LENGTHS[..18] };
+    /// One of these lengths, mostly a short one, since a long one takes as long as a thousand other calls.
+    fn length(&mut self, lengths: &[usize]) -> usize {
+        let lengths = if self.random.below(16) == 0 { lengths } else { &lengths[..18] };
         self.random.one_of(lengths)
     }
 
     fn sums(&mut self) -> Result<(), String> {
-        let length = self.length();
+        let length = self.length(LENGTHS);
         let words = self.words(length);
         same(|| format!("sum_array of {words:X?}"), Source::sum_array(&words), Library::sum_array(&words))
     }
 
     fn dots(&mut self) -> Result<(), String> {
-        let length = self.length();
-        let other = if self.random.below(16) == 0 { self.length() } else { length };
+        let length = self.length(LENGTHS);
+        let other = if self.random.below(16) == 0 { self.length(LENGTHS) } else { length };
         let (lhs, rhs) = (self.words(length), self.words(other));
         same(
             || format!("dot_product of {lhs:X?} and {rhs:X?}"),
@@ -135,7 +135,7 @@ impl Inputs {
 
     /// Answers and buffers, which hold random bytes before.
     fn encodings(&mut self) -> Result<(), String> {
-        let length = self.length();
+        let length = self.length(coding_lengths());
         let words = self.words(length);
         let mut theirs: Vec<u8> = (0..self.bytes_for(length)).map(|_| self.random.word() as u8).collect();
         let mut ours = theirs.clone();
@@ -146,7 +146,7 @@ impl Inputs {
 
     /// Groups below P, but for one in every second call; now and then any words.
     fn decodings(&mut self) -> Result<(), String> {
-        let length = self.length();
+        let length = self.length(coding_lengths());
         let mut groups = self.words(length);
         if self.random.below(8) != 0 {
             groups.iter_mut().for_each(|group| *group = Source::as_canonical_u64(*group));

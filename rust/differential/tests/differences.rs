@@ -29,13 +29,17 @@ mod intended {
     }
 
     #[test]
-    fn more_than_4096() {
+    fn sums_of_more_than_4096() {
         let ones = [1; 4097];
         assert_eq!(Source::as_canonical_u64(Source::sum::<4097>(&ones)), 4097);
         assert_eq!(Source::as_canonical_u64(Source::dot::<4097>(&ones, &ones)), 4097);
         assert_eq!(Library::sum_array(&ones), refused(5));
         assert_eq!(Library::dot_product(&ones, &ones), refused(5));
-        assert_eq!(Library::encode(&ones, &mut [0; 8 * 4097]), Err(Refused::by(5)));
+    }
+
+    #[test]
+    fn codings_of_more_than_4096() {
+        assert_eq!(Library::encode(&[1; 4097], &mut [0; 8 * 4097]), Err(Refused::by(5)));
         assert_eq!(Library::decode(&[0; 8 * 4097], &mut [0; 4097]), Err(Refused::by(5)));
     }
 

@@ -21,7 +21,7 @@ fn the_list_is_made_again_byte_for_byte() {
 #[test]
 fn its_lines_have_one_width_and_are_enough() {
     let list = read("crates/replay/stdin");
-    assert!(list.lines().all(|line| line.len() == 111));
+    assert!(list.lines().all(|line| line.len() == 112));
     assert!(list.lines().count() >= 20_000);
 }
 

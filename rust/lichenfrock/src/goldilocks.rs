@@ -276,7 +276,7 @@ impl Goldilocks {
     /// let mut bytes = [0; 16];
     /// Goldilocks::encode(&[Goldilocks::ONE, Goldilocks::NEG_ONE], &mut bytes)?;
     /// assert_eq!(bytes, [1, 0, 0, 0, 0, 0, 0, 0, 0, 0, 0, 0, 0xFF, 0xFF, 0xFF, 0xFF]);
-    /// assert_eq!(Goldilocks::encode(&[Goldilocks::ONE], &mut bytes), Err(Refusal::WrongBuffer));
+    /// assert_eq!(Goldilocks::encode(&[Goldilocks::ONE], &mut bytes), Err(Refusal::WrongLength));
     /// # Ok::<(), Refusal>(())
     /// ```
     #[inline]

@@ -1,6 +1,6 @@
 use std::fmt;
 
-/// Why an operation was refused, with the paper's number and words.
+/// Why an operation was refused, with the paper's number. Its text is the paper's, or says more where several operations share the number.
 ///
 /// A refusal changes nothing: every lent buffer is as it was.
 ///
@@ -26,10 +26,10 @@ pub enum Refusal {
     NoSquareRoot,
     /// 4: dot: the two lengths differ.
     LengthsDiffer,
-    /// 5: more than 4,096 words or pairs.
+    /// 5: more words or pairs than the operation takes; the text says how many each takes.
     TooMany,
-    /// 6: byte buffer isn't 8 times the word count.
-    WrongBuffer,
+    /// 6: a lent buffer or list hasn't the length that it must have. In a coding: byte buffer isn't 8 times the word count.
+    WrongLength,
     /// 7: generator or slot above 32.
     Above32,
 }
@@ -49,7 +49,7 @@ impl Refusal {
             Refusal::NoSquareRoot => 3,
             Refusal::LengthsDiffer => 4,
             Refusal::TooMany => 5,
-            Refusal::WrongBuffer => 6,
+            Refusal::WrongLength => 6,
             Refusal::Above32 => 7,
         }
     }
@@ -80,7 +80,7 @@ impl Refusal {
             3 => Refusal::NoSquareRoot,
             4 => Refusal::LengthsDiffer,
             5 => Refusal::TooMany,
-            6 => Refusal::WrongBuffer,
+            6 => Refusal::WrongLength,
             7 => Refusal::Above32,
             _ => unreachable!("it is proved that no operation is refused {number}"),
         })
@@ -94,8 +94,8 @@ impl fmt::Display for Refusal {
             Refusal::InverseOfZero => "inverse of zero",
             Refusal::NoSquareRoot => "no element squares to the input",
             Refusal::LengthsDiffer => "dot: the two lengths differ",
-            Refusal::TooMany => "more than 4,096 words or pairs",
-            Refusal::WrongBuffer => "byte buffer isn't 8 times the word count",
+            Refusal::TooMany => "more than 4,096 words or pairs in a sum or dot product, or more than 4,096 words in a coding",
+            Refusal::WrongLength => "a lent buffer or list hasn't the length that it must have",
             Refusal::Above32 => "generator or slot above 32",
         })
     }

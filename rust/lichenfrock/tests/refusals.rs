@@ -2,6 +2,9 @@
 
 use lichenfrock::{Goldilocks, Refusal};
 
+const TOO_MANY: &str = "more than 4,096 words or pairs in a sum or dot product, or more than 4,096 words in a coding";
+const WRONG_LENGTH: &str = "a lent buffer or list hasn't the length that it must have";
+
 #[track_caller]
 fn refused<T: std::fmt::Debug>(answer: Result<T, Refusal>, number: u64, index: usize, words: &str) {
     let refusal: Box<dyn std::error::Error> = answer.unwrap_err().into();
@@ -27,8 +30,8 @@ fn of_lists() {
     let many = [Goldilocks::ONE; 4_097];
     refused(Goldilocks::dot_product(&many[..1], &[]), 4, 0, "dot: the two lengths differ");
     refused(Goldilocks::dot_product(&many, &[]), 4, 0, "dot: the two lengths differ");
-    refused(Goldilocks::dot_product(&many, &many), 5, 0, "more than 4,096 words or pairs");
-    refused(Goldilocks::sum_array(&many), 5, 0, "more than 4,096 words or pairs");
+    refused(Goldilocks::dot_product(&many, &many), 5, 0, TOO_MANY);
+    refused(Goldilocks::sum_array(&many), 5, 0, TOO_MANY);
 }
 
 #[test]
@@ -36,21 +39,11 @@ fn of_coding() {
     let mut words = [Goldilocks::TWO; 4_097];
     let mut bytes = vec![0xAA; 8 * 4_097];
     let kept = (words, bytes.clone());
-    refused(Goldilocks::encode(&words, &mut bytes), 5, 0, "more than 4,096 words or pairs");
-    refused(Goldilocks::decode(&bytes, &mut words), 5, 0, "more than 4,096 words or pairs");
+    refused(Goldilocks::encode(&words, &mut bytes), 5, 0, TOO_MANY);
+    refused(Goldilocks::decode(&bytes, &mut words), 5, 0, TOO_MANY);
     for size in [0, 7, 9, 16] {
-        refused(
-            Goldilocks::encode(&words[..1], &mut bytes[..size]),
-            6,
-            0,
-            "byte buffer isn't 8 times the word count",
-        );
-        refused(
-            Goldilocks::decode(&bytes[..size], &mut words[..1]),
-            6,
-            0,
-            "byte buffer isn't 8 times the word count",
-        );
+        refused(Goldilocks::encode(&words[..1], &mut bytes[..size]), 6, 0, WRONG_LENGTH);
+        refused(Goldilocks::decode(&bytes[..size], &mut words[..1]), 6, 0, WRONG_LENGTH);
     }
     assert!(words == kept.0 && bytes == kept.1);
     for first in 0..3 {

@@ -178,6 +178,6 @@ impl fmt::Display for Call {
 impl fmt::Display for Outcome {
     fn fmt(&self, f: &mut fmt::Formatter) -> fmt::Result {
         let Outcome { number, index, word } = self;
-        write!(f, "{number:X} {index:04X} {word:016X}")
+        write!(f, "{number:02X} {index:04X} {word:016X}")
     }
 }

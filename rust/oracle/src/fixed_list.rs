@@ -2,7 +2,7 @@
 
 use crate::call::{Call, Operation, Operation::*};
 use crate::inputs::{edges, Random, P};
-use crate::source::{Source, LENGTHS};
+use crate::source::{coding_lengths, Source, LENGTHS};
 use std::fmt::Write;
 
 /// The list, a line for each call with what the source answers.
@@ -118,7 +118,7 @@ fn dots(random: &mut Random) -> Vec<Call> {
 fn codings(random: &mut Random) -> Vec<Call> {
     let both = |a, c, words, bytes| [Call::of(Encode, a, 0).over(c, words, bytes), Call::of(Decode, a, 0).over(c, bytes, words)];
     let mut calls = Vec::new();
-    for &words in LENGTHS {
+    for &words in coding_lengths() {
         let bytes = 8 * words;
         calls.extend(lists(random).into_iter().flat_map(|(a, c)| both(a, c, words, bytes)));
         for other in [0, bytes.saturating_sub(8), bytes.saturating_sub(1), bytes + 1] {

@@ -29,7 +29,7 @@ pub use arithmetic::{Answer, Arithmetic, Refused};
 pub use call::{Call, Operation, Outcome};
 pub use fixed_list::{fixed_calls, fixed_list};
 pub use inputs::{edges, Random, P};
-pub use source::{Source, LENGTHS};
+pub use source::{coding_lengths, Source, LENGTHS};
 
 // The source's packed lanes are out: where it names one of these as its `Packing`, it gets the scalar type.
 #[allow(unused_imports)]

@@ -11,8 +11,12 @@ use std::cmp::Ordering;
 /// Answers by the source.
 pub struct Source;
 
-/// Document 01's limit on words and pairs, which the source does not have.
-const LIMIT: usize = 4096;
+/// Document 01's limit on the words of a sum and the pairs of a dot product, which the source does not have. It stands apart from coding's, since document 02
+/// raises it alone.
+const SUM_LIMIT: usize = 4096;
+
+/// Its limit on the words of a coding, which the source does not have either.
+const CODING_LIMIT: usize = 4096;
 
 fn of(word: u64) -> Goldilocks {
     Goldilocks::new(word)
@@ -32,7 +36,7 @@ fn canonical(found: Option<Goldilocks>, otherwise: u64) -> Answer {
 }
 
 impl Source {
-    /// `sum_array` of the source, which has the number of words in its type, and no limit of 4,096.
+    /// `sum_array` of the source, which has the number of words in its type, and no limit.
     #[inline]
     pub fn sum<const N: usize>(input: &[u64]) -> u64 {
         Goldilocks::sum_array::<N>(all_of(input)).value
@@ -74,7 +78,7 @@ impl Source {
 /// An instance of both for each of these lengths.
 macro_rules! instances {
     ($($length:literal)*) => {
-        /// The lengths at which sums and dot products can be asked of the source.
+        /// The lengths at which sums and dot products can be asked of the source, from the shortest.
         pub const LENGTHS: &[usize] = &[$($length),*];
 
         fn sum(input: &[u64]) -> u64 {
@@ -96,6 +100,11 @@ macro_rules! instances {
 instances!(
     0 1 2 3 4 5 6 7 8 9 10 11 12 13 14 15 16 17 31 32 33 63 64 65 127 128 129 255 256 257 511 512 513 1023 1024 1025 2047 2048 2049 4094 4095 4096 4097
 );
+
+/// The lengths at which codings are asked: of the same, those up to one word more than is coded.
+pub fn coding_lengths() -> &'static [usize] {
+    &LENGTHS[..LENGTHS.partition_point(|&words| words <= CODING_LIMIT + 1)]
+}
 
 impl Arithmetic for Source {
     #[inline]
@@ -134,7 +143,7 @@ impl Arithmetic for Source {
     }
 
     fn sum_array(input: &[u64]) -> Answer {
-        if input.len() > LIMIT {
+        if input.len() > SUM_LIMIT {
             return Err(Refused::by(5));
         }
         Ok(sum(input))
@@ -144,7 +153,7 @@ impl Arithmetic for Source {
         if lhs.len() != rhs.len() {
             return Err(Refused::by(4));
         }
-        if lhs.len() > LIMIT {
+        if lhs.len() > SUM_LIMIT {
             return Err(Refused::by(5));
         }
         Ok(dot(lhs, rhs))
@@ -252,7 +261,7 @@ fn held(taken: Option<Goldilocks>) -> Answer {
 
 /// Document 01's tests on the two lengths of a coding.
 fn fits(words: usize, bytes: usize) -> Result<(), Refused> {
-    if words > LIMIT {
+    if words > CODING_LIMIT {
         return Err(Refused::by(5));
     }
     if bytes != 8 * words {

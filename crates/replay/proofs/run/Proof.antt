@@ -2,13 +2,13 @@
 use mathlib.Core.Path.{_≡_}
 use borrow.Author.Needs.{needs}
 use lib.ListN.{length}
-use Rattle.replay.specs.Room.{Room}
+use Rattle.replay.specs.Room.{Room, pieceBytes}
 use Rattle.replay.proofs.run.Statement.{statement}
 use Rattle.replay.proofs.run.Tie as tie
 
 abbrev Inv-loop : tie.InvT-loop
 Inv-loop piece₀ words₀ others₀ bytes₀ tally₀ turns₀ piece words others bytes tally turns =
-    (length piece ≡ 57344) × Room words others bytes
+    (length piece ≡ pieceBytes) × Room words others bytes
 
 abbrev μ-loop : tie.MeasureT-loop
 μ-loop piece₀ words₀ others₀ bytes₀ tally₀ turns₀ piece words others bytes tally turns = turns
