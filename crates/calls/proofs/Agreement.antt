@@ -18,7 +18,6 @@ use Rattle.prime.proofs.Powers.{power-mod}
 use Rattle.prime.proofs.Theorems.{power-is, power-rest, inverse-power}
 use Rattle.prime.specs.Elements.{half, residue}
 use Rattle.limbs.specs.Limbs.{limbs}
-use Rattle.words.specs.Words.{Words}
 use Rattle.sums.specs.Sums.{limit, total, products, dotWord, dotRefusal}
 use Rattle.words.specs.Orders.{order}
 use Rattle.answers.proofs.Stands.{Stands, to}
@@ -35,6 +34,7 @@ use Rattle.wire.specs.Refusals.{sizes}
 use Rattle.answers.specs.Answers.{kept}
 use Rattle.sequence.specs.Outcomes.{element}
 use Rattle.sequence.specs.Families.{Agrees, Respectful}
+use Rattle.sequence.proofs.Stores.{words-at}
 use Rattle.calls.specs.Calls.{add, sub, neg, reduce, mul, square, halve, sum, dot, from-i64, from-limbs, shift-up, shift-down, inverse, square-root, seventh-root, generator, equal, compare, is-zero, slot, encode, canonical-form, Says, truth, ordering, buffer, outcome, word, answered, figured, said, figure}
 use Rattle.calls.specs.WholeNumbers.{minus, over, signed, hasRoot, rootOf, seventhRootOf}
 use Rattle.calls.proofs.FirstRoot.{root-first}
@@ -59,8 +59,8 @@ a-figure true n {v} e h = record {
 }
 a-figure false n e h = record { below = (lit< tt, tt); same = refl }
 
-none : {p q : Says} → p ≡ q → Agrees (said p) (said q)
-none e = record { below = tt; same = ap said e }
+no-word : {p q : Says} → p ≡ q → Agrees (said p) (said q)
+no-word e = record { below = tt; same = ap said e }
 
 -- ---- from an operation's element to the whole number
 
@@ -141,11 +141,7 @@ unfolding encoded flatMap
 encoded-is s [] = refl
 encoded-is s (i ∷ is) = ap (λ (bs : List ℕ). bytesOf 8 (s i % P) ++ bs) (encoded-is s is)
 
--- the words at the places of a list
-pub words-at : (s : ℕ → ℕ) → ((i : ℕ) → s i < 2 ^ 64) → (is : List ℕ) → Words (map s is)
-words-at s h [] = tt
-words-at s h (i ∷ is) = (h i, words-at s h is)
-
+-- dot, of the words at the places of two lists
 pub dot-at : (s : ℕ → ℕ) → ((i : ℕ) → s i < 2 ^ 64) → (is js : List ℕ) → eqb (length (map s is)) (length (map s js)) ≡ true
     → leb (length (map s is)) limit ≡ true → Stands (total (products (map s is) (map s js)) % P) (dotWord (map s is) (map s js))
 dot-at s h is js e l =
@@ -188,11 +184,11 @@ respectful (square-root i) s n h =
     an-answer (isSquare (s i)) (hasRoot (s i % P)) (is-square-is (s i)) refl (λ t. to (root-is (s i) (is-square (s i) .0 t)) (root-stands (s i)))
 respectful (seventh-root i) s n h = a-word (power-stands (s i) seventh) (seventh-root-is (s i))
 respectful (generator k) s n h = an-answer (leb k 32) (leb k 32) refl refl (λ _. power-stands G (2 ^ (32 - k)))
-respectful (equal i j) s n h = none (ap₂ (λ (a b : ℕ). truth (eqb a b)) (canonical-is (s i) (h i)) (canonical-is (s j) (h j)))
-respectful (compare i j) s n h = none (ap₂ (λ (a b : ℕ). ordering (order a b)) (canonical-is (s i) (h i)) (canonical-is (s j) (h j)))
-respectful (is-zero i) s n h = none (ap (λ (a : ℕ). truth (eqb a 0)) (canonical-is (s i) (h i)))
+respectful (equal i j) s n h = no-word (ap₂ (λ (a b : ℕ). truth (eqb a b)) (canonical-is (s i) (h i)) (canonical-is (s j) (h j)))
+respectful (compare i j) s n h = no-word (ap₂ (λ (a b : ℕ). ordering (order a b)) (canonical-is (s i) (h i)) (canonical-is (s j) (h j)))
+respectful (is-zero i) s n h = no-word (ap (λ (a : ℕ). truth (eqb a 0)) (canonical-is (s i) (h i)))
 respectful (slot i k) s n h = a-figure (leb k 32) 7 (ap (λ (a : ℕ). a % 2 ^ k) (canonical-is (s i) (h i)))
     (lt-of-le-of-lt (mod-le (s i % P) (2 ^ k)) (below-P (s i)))
 respectful (encode is before) s n h =
-    none (ap₂ (λ (k : ℕ) (bs : List ℕ). buffer k 0 (kept k bs before)) (ap (λ (l : ℕ). sizes l (length before)) (length-map is s)) (encoded-is s is))
+    no-word (ap₂ (λ (k : ℕ) (bs : List ℕ). buffer k 0 (kept k bs before)) (ap (λ (l : ℕ). sizes l (length before)) (length-map is s)) (encoded-is s is))
 respectful (canonical-form i) s n h = a-figure true 0 (canonical-is (s i) (h i)) (mod-lt (s i) (lit< tt))

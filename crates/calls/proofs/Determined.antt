@@ -1,13 +1,9 @@
 -- 01, "What the contracts must leave no room for": no public operation asks anything of its caller, and no second answer fits its contract, in the order
 -- of `goldilocks`. `X.Asked` and `X.Learnt` are the contract of the function X as the kit hands it to X's callers, so what stands here is said of the
 -- functions' own `requires` and `ensures`.
-use mathlib.Core.Path.{_≡_, refl, sym, ap₂, _∙_}
-use Prim.Native.Nat.{ℕ}
+use mathlib.Core.Path.{ap₂, _∙_}
 use denote.Ref.{now}
-use Rattle.answers.proofs.Told.{numbered, numbered-is, told-by}
-use Rattle.answers.specs.declared.replies.Coded.{Coded}
-use Rattle.answers.specs.declared.replies.Coded.the-variants.{Done, Refused as RefusedAt}
-use Rattle.answers.specs.Answers.{codedRefusal, indexOf}
+use Rattle.answers.proofs.Told.{told-by, coded, coded-is}
 use Rattle.goldilocks.proofs.add.Reads as add
 use Rattle.goldilocks.proofs.sub.Reads as sub
 use Rattle.goldilocks.proofs.neg.Reads as neg
@@ -36,23 +32,10 @@ use Rattle.goldilocks.proofs.from_canonical_checked_u64.Reads as from-canonical
 use Rattle.goldilocks.proofs.from_canonical_checked_i64.Reads as from-canonical-checked-i64
 use Rattle.goldilocks.proofs.value.Reads as value
 use Rattle.answers.proofs.refusals.Refusal.number.Reads as number
-use Rattle.calls.specs.Determined.{Fixes, Determined}
+use Rattle.sequence.specs.Determined.{Fixes, Determined}
+use Rattle.sequence.proofs.Determined.{fixed}
 
--- ---- what coding answers is told by its numbers, as an answer is (Told.antt of `words`)
-
-coded : ℕ → ℕ → Coded
-coded n i = numbered Done (λ r. RefusedAt r i) n
-
-coded-is : (r : Coded) → r ≡ coded (codedRefusal r) (indexOf r)
-unfolding coded numbered
-coded-is Done = refl
-coded-is (RefusedAt r i) = numbered-is Done (λ r. RefusedAt r i) r
-
--- ---- so where a contract says what is seen by the arguments alone, there is no second
-
-module _ {K : Type 0} {A R S B : K → Type 0} {Tells : (k : K) → A k → R k → S k → Type 0} {see : (k : K) → R k → S k → B k} where
-  fixed : {v : (k : K) → A k → B k} → ((k : K) (a : A k) (r : R k) (s : S k) → Tells k a r s → see k r s ≡ v k a) → Fixes see Tells
-  fixed f k a r q s t h i = f k a r s h ∙ sym (f k a q t i)
+-- ---- the operations
 
 pub add-determined : Determined add.Asked add.Learnt
 add-determined = record { free = λ k a. tt; answer = fixed (λ k a r s h. h .word) }

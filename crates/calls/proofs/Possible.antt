@@ -4,7 +4,6 @@ use mathlib.Core.Bool.{Bool, true, false, not, cond, false≢true}
 use mathlib.Core.List.{List, [], _∷_, map}
 use Prim.Native.Nat.{ℕ, _-_, _*_, _%_, _^_, _<_}
 use borrow.Author.Tests.{leb-true}
-use denote.Ref.{RefT}
 use lib.Dec.{eqb, leb}
 use lib.ListN.{length}
 use Rattle.prime.specs.Modulus.{P, seventh}
@@ -18,7 +17,7 @@ use Rattle.sums.specs.Sums.{limit}
 use Rattle.words.specs.Orders.{order}
 use Rattle.answers.specs.Promises.{Answered}
 use Rattle.answers.proofs.Stands.{Stands, held as held-by, granted, refused}
-use Rattle.words.proofs.Laws.{seen, canonical-stands, add-stands, sub-stands, neg-stands, reduce-stands, mul-stands, halve-stands, from-u128-stands, slot-stands}
+use Rattle.words.proofs.Laws.{seen as seen-by, canonical-stands, add-stands, sub-stands, neg-stands, reduce-stands, mul-stands, halve-stands, from-u128-stands, slot-stands}
 use Rattle.sums.proofs.SumLaws.{sum-stands}
 use Rattle.shifts.proofs.PowersOfTwo.{shift-up-stands, shift-down-stands}
 use Rattle.words.proofs.Signed.{from-i64-stands}
@@ -29,15 +28,16 @@ use Rattle.roots.proofs.SquareRootWord.{is-square, rooted, unrooted}
 use Rattle.answers.specs.declared.replies.Coded.{Coded}
 use Rattle.answers.specs.declared.replies.Coded.the-variants.{Done, Refused as RefusedAt}
 use Rattle.wire.specs.Wire.{encoded}
-use Rattle.wire.specs.Refusals.{sizes}
+use Rattle.wire.specs.Refusals.{limit as codingLimit, sizes}
 use Rattle.wire.specs.Promises.{Encoded}
-use Rattle.sequence.specs.Outcomes.{Outcome}
-use Rattle.calls.specs.Calls.{Call, add, sub, neg, reduce, mul, square, halve, sum, dot, from-i64, from-limbs, shift-up, shift-down, inverse, square-root, seventh-root, generator, equal, compare, is-zero, slot, encode, canonical-form, Says, outcome, figure}
+use Rattle.sequence.proofs.Stores.{words-at}
+use Rattle.sequence.proofs.Allows.{lent, one, two}
+use Rattle.calls.specs.Calls.{Call, add, sub, neg, reduce, mul, square, halve, sum, dot, from-i64, from-limbs, shift-up, shift-down, inverse, square-root, seventh-root, generator, equal, compare, is-zero, slot, encode, canonical-form, outcome, figure}
 use Rattle.calls.specs.Held.{held}
-use Rattle.calls.specs.Contracts.{One, Two, allowed}
+use Rattle.calls.specs.Contracts.{allowed}
 use Rattle.calls.proofs.FirstRoot.{first-squares, root-first}
-use Rattle.calls.proofs.Agreement.{words-at, dot-at}
-use Rattle.calls.proofs.Contracts.{answer, filled}
+use Rattle.calls.proofs.Agreement.{dot-at}
+use Rattle.calls.proofs.Contracts.{replied-is, filled}
 
 -- ---- an answer for each promise that may refuse
 
@@ -67,25 +67,10 @@ coding false u = (RefusedAt TooMany 0, refl, refl)
 
 code : (ws before : List ℕ) → (r : Coded) × (after : List ℕ) × Encoded ws before after r
 code ws before =
-    let (r, f, i) = coding (leb (length ws) limit) (eqb (length before) (8 * length ws)) in
+    let (r, f, i) = coding (leb (length ws) codingLimit) (eqb (length before) (8 * length ws)) in
     (r, kept (sizes (length ws) (length before)) (encoded ws) before, record { refusal = f; index = i; bytes = refl })
 
--- a lent list, wherever it lies
-lent : List ℕ → RefT (List ℕ)
-lent xs = record { ptr = (0, 0); name = 0; now = xs }
-
--- ---- a call on one number, and on two; each is at exit what it was
-
-one : {N R : Type 0} {C : Unit {0} → N × Unit {0} → R → N × Unit {0} → Type 0} {of : R → Outcome Says ℕ} {o : Outcome Says ℕ} (x : N) (r : R)
-    → C tt (x, tt) r (x, tt) → o ≡ of r → One C x of o
-one x r h e = (tt, (x, tt), r, (x, tt), refl, h, e)
-
-two : {R : Type 0} {C : Unit {0} → ℕ × (ℕ × Unit {0}) → R → ℕ × (ℕ × Unit {0}) → Type 0} {of : R → Outcome Says ℕ} {o : Outcome Says ℕ} (x y : ℕ) (r : R)
-    → C tt (x, (y, tt)) r (x, (y, tt)) → o ≡ of r → Two C x y of o
-two x y r h e = (tt, (x, (y, tt)), r, (x, (y, tt)), (refl, refl), h, e)
-
 pub possible : (c : Call) (s : ℕ → ℕ) → ((i : ℕ) → s i < 2 ^ 64) → allowed c s (held c s)
-unfolding lent
 possible (add i j) s h = two (s i) (s j) _ (held-by refl (add-stands (s i) (s j) (h i) (h j))) refl
 possible (sub i j) s h = two (s i) (s j) _ (held-by refl (sub-stands (s i) (s j) (h i) (h j))) refl
 possible (neg i) s h = one (s i) _ (held-by refl (neg-stands (s i) (h i))) refl
@@ -96,24 +81,24 @@ possible (halve i) s h = one (s i) _ (held-by refl (halve-stands (s i) (h i))) r
 possible (sum is) s h =
     let xs : List ℕ = map s is in
     let (r, a) = reply (leb (length xs) limit) TooMany (λ t. sum-stands xs (words-at s h is) (leb-true (length xs) limit t)) in
-    (([], tt), (lent xs, tt), r, (lent xs, tt), refl, a, sym (answer a))
+    (([], tt), (lent xs, tt), r, (lent xs, tt), refl, a, sym (replied-is a))
 possible (dot is js) s h =
     let xs : List ℕ = map s is in
     let ys : List ℕ = map s js in
     let (r, a) = reply-dot (eqb (length xs) (length ys)) (leb (length xs) limit) (dot-at s h is js) in
-    (([], ([], tt)), (lent xs, (lent ys, tt)), r, (lent xs, (lent ys, tt)), (refl, refl), a, sym (answer a))
+    (([], ([], tt)), (lent xs, (lent ys, tt)), r, (lent xs, (lent ys, tt)), (refl, refl), a, sym (replied-is a))
 possible (from-i64 z fits) s h = one z _ (held-by refl (from-i64-stands z fits)) refl
 possible (from-limbs i j) s h = two (s i) (s j) _ (held-by refl (from-u128-stands (s i) (s j) (h i) (h j))) refl
 possible (shift-up i k) s h = two (s i) k _ (held-by refl (shift-up-stands (s i) k (h i))) refl
 possible (shift-down i k) s h = two (s i) k _ (held-by refl (shift-down-stands (s i) k (h i))) refl
-possible (inverse i) s h = let (r, a) = invert (s i) _ refl in one (s i) r a (sym (answer (a .answered)))
-possible (square-root i) s h = let (r, a) = take-root (s i) _ refl in one (s i) r a (sym (answer (a .answered)))
+possible (inverse i) s h = let (r, a) = invert (s i) _ refl in one (s i) r a (sym (replied-is (a .answered)))
+possible (square-root i) s h = let (r, a) = take-root (s i) _ refl in one (s i) r a (sym (replied-is (a .answered)))
 possible (seventh-root i) s h = one (s i) _ (record { held = held-by refl (power-stands (s i) seventh); seventh-power = power-of-root (s i) }) refl
 possible (generator k) s h =
-    let (r, a) = reply (leb k 32) Above32 (λ _. power-stands G (2 ^ (32 - k))) in one k r a (sym (answer a))
-possible (equal i j) s h = two (s i) (s j) _ (seen eqb (s i) (s j) (h i) (h j) refl refl refl) refl
-possible (compare i j) s h = two (s i) (s j) _ (seen order (s i) (s j) (h i) (h j) refl refl refl) refl
-possible (is-zero i) s h = one (s i) _ (seen (λ a _. eqb a 0) (s i) (s i) (h i) (h i) refl refl refl) refl
+    let (r, a) = reply (leb k 32) Above32 (λ _. power-stands G (2 ^ (32 - k))) in one k r a (sym (replied-is a))
+possible (equal i j) s h = two (s i) (s j) _ (seen-by eqb (s i) (s j) (h i) (h j) refl refl refl) refl
+possible (compare i j) s h = two (s i) (s j) _ (seen-by order (s i) (s j) (h i) (h j) refl refl refl) refl
+possible (is-zero i) s h = one (s i) _ (seen-by (λ a _. eqb a 0) (s i) (s i) (h i) (h i) refl refl refl) refl
 possible (slot i k) s h =
     let (r, a) = reply (leb k 32) Above32 (λ _. slot-stands (s i) k (h i)) in
     two (s i) k r a (sym (ap₂ (λ (n w : ℕ). outcome (figure n w) (w ∷ [])) (a .refusal) (a .word)))

@@ -31,20 +31,8 @@ use Rattle.goldilocks.proofs.slot.Reads as fn-slot
 use Rattle.goldilocks.proofs.encode.Reads as fn-encode
 use Rattle.goldilocks.proofs.as_canonical_u64.Reads as fn-as-canonical-u64
 use Rattle.sequence.specs.Outcomes.{Outcome}
+use Rattle.sequence.specs.Allows.{Allows, One, Two}
 use Rattle.calls.specs.Calls.{Call, add, sub, neg, reduce, mul, square, halve, sum, dot, from-i64, from-limbs, shift-up, shift-down, inverse, square-root, seventh-root, generator, equal, compare, is-zero, slot, encode, canonical-form, Says, refusal, figure, truth, ordering, buffer, outcome, word, figured, said}
-
--- o is what `of` makes of an answer that the contract C allows, from arguments of which `given` holds.
-abbrev pub Allows : {K : Type 0} {A R S : K → Type 0} → ((k : K) → A k → R k → S k → Type 0)
-    → ((k : K) → A k → Type 0) → ((k : K) → R k → S k → Outcome Says ℕ) → Outcome Says ℕ → Type 0
-Allows {K} {A} {R} {S} C given of o = (k : K) × (a : A k) × (r : R k) × (t : S k) × given k a × C k a r t × (o ≡ of k r t)
-
--- The same for a function of one number, called on x.
-abbrev pub One : {N R : Type 0} → (Unit {0} → N × Unit {0} → R → N × Unit {0} → Type 0) → N → (R → Outcome Says ℕ) → Outcome Says ℕ → Type 0
-One C x of = Allows C (λ k a. a .0 ≡ x) (λ k r t. of r)
-
--- The same for a function of two numbers, called on x and y.
-abbrev pub Two : {R : Type 0} → (Unit {0} → ℕ × (ℕ × Unit {0}) → R → ℕ × (ℕ × Unit {0}) → Type 0) → ℕ → ℕ → (R → Outcome Says ℕ) → Outcome Says ℕ → Type 0
-Two C x y of = Allows C (λ k a. (a .0 ≡ x) × (a .1 .0 ≡ y)) (λ k r t. of r)
 
 -- What is made of an answer that may be a refusal.
 abbrev pub replied : Answer → Outcome Says ℕ

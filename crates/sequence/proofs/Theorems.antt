@@ -1,35 +1,31 @@
--- Demand 3, for any family of calls whose held answers are, in elements, the whole-number ones.
+-- Demand 3, for any family of calls whose held answers are, in elements, the whole-number ones; where it is tied to functions, for the functions; and for
+-- two families joined.
 use mathlib.Core.Path.{_≡_, refl, sym, ap, ap₂, subst, fun-ext, _∙_}
-use mathlib.Core.Logic.{_↔_, inl, inr}
+use mathlib.Core.Logic.{_↔_, _⊎_, inl, inr}
 use mathlib.Core.List.{List, [], _∷_, _++_, map, map-map, map-append}
-use Prim.Native.Nat.{ℕ, zero, suc, _%_, _^_, _<_}
+use Prim.Native.Nat.{ℕ, _%_, _^_, _<_}
+use native.Mathlib.Nat.{mod-lt, mod-eq-of-lt, lt-trans}
 use lib.Dec.{lit<}
-use lib.ListN.{List·getD-map}
 use Rattle.prime.specs.Modulus.{P}
+use Rattle.prime.specs.Lists.{Each}
 use Rattle.words.specs.Words.{Words}
 use Rattle.wire.specs.Wire.{elementBytes, bytesOf}
 use Rattle.wire.proofs.Theorems.{same-bytes}
 use Rattle.sequence.specs.Outcomes.{Outcome, element, elements, seen, shown}
-use Rattle.sequence.specs.Families.{Step, Family, Respectful, Agrees, named, both}
+use Rattle.sequence.specs.Families.{May, Family, Respectful, Agrees, named, both}
 use Rattle.sequence.specs.Runs.{at, run, Plays}
-
-words-append : (ws vs : List ℕ) → Words ws → Words vs → Words (ws ++ vs)
-words-append [] vs h k = k
-words-append (w ∷ ws) vs h k = (h .0, words-append ws vs (h .1) k)
-
--- each place of a store of words holds a word, and that of their elements its element
-word-at : (ws : List ℕ) → Words ws → (i : ℕ) → at ws i < 2 ^ 64
-word-at [] h i = lit< tt
-word-at (w ∷ ws) h zero = h .0
-word-at (w ∷ ws) h (suc i) = word-at ws (h .1) i
-
-element-at : (ws : List ℕ) → at (map element ws) ≡ (λ i. element (at ws i))
-element-at ws = fun-ext (λ i. List·getD-map element ws i 0)
+use Rattle.sequence.specs.Ties.{Tied, eitherMay}
+use Rattle.sequence.proofs.Stores.{words-append, word-at, element-at}
 
 -- what is seen of an outcome is what is shown of its elements
 seen-elements : {Says : Type 0} (o : Outcome Says ℕ) → seen o ≡ shown (elements o)
 seen-elements o =
     ap (λ (bs : List (List ℕ)). record { says = o .says; words = bs; numbers = o .numbers }) (sym (map-map (bytesOf 8) element (o .words)))
+
+-- remainders are below P
+elements-below : (ws : List ℕ) → Each (λ (w : ℕ). w < P) (map element ws)
+elements-below [] = tt
+elements-below (w ∷ ws) = (mod-lt w (lit< tt), elements-below ws)
 
 module _ (F : Family) (respectful : Respectful F) where
   -- one call
@@ -59,33 +55,61 @@ module _ (F : Family) (respectful : Respectful F) where
   runs-alike cs ws vs ns h k e =
       sequence cs ws ns h ∙ ap (λ (es : List ℕ). map shown (run (F .whole) cs es ns)) e ∙ sym (sequence cs vs ns k)
 
-  -- Where each call may have its held outcome, the held run is one that may be.
-  pub plays-held : (may : F .Call → (ℕ → ℕ) → (ℕ → ℕ) → Outcome (F .Says) ℕ → Type 0)
-      → ((c : F .Call) (s n : ℕ → ℕ) → ((i : ℕ) → s i < 2 ^ 64) → may c s n (F .held c s n))
-      → (cs : List (F .Call)) (ws ns : List ℕ) → Words ws → Plays may cs ws ns (run (F .held) cs ws ns)
-  plays-held may can [] ws ns h = tt
-  plays-held may can (c ∷ cs) ws ns h =
+  -- The whole-number side stays below P: from numbers below P, each call leaves numbers below P.
+  pub whole-below : (c : F .Call) (e n : ℕ → ℕ) → ((i : ℕ) → e i < P) → Each (λ (w : ℕ). w < P) (F .whole c e n .words)
+  whole-below c e n h =
+      let same : elements (F .held c e n) ≡ F .whole c e n =
+      respectful c e n (λ i. lt-trans (h i) (lit< tt)) .same ∙ ap (λ (d : ℕ → ℕ). F .whole c d n) (fun-ext (λ i. mod-eq-of-lt (h i))) in
+      subst (λ (o : Outcome (F .Says) ℕ). Each (λ (w : ℕ). w < P) (o .words)) same (elements-below (F .held c e n .words))
+
+module _ (F : Family) {may : May (F .Call) (F .Says)} (respectful : Respectful F) (tied : Tied F may) where
+  -- The outcomes that any calls in turn may have are those of the held run, and no others.
+  pub as-held : (cs : List (F .Call)) (ws ns : List ℕ) (os : List (Outcome (F .Says) ℕ)) → Plays may cs ws ns os → os ≡ run (F .held) cs ws ns
+  as-held [] ws ns [] p = refl
+  as-held [] ws ns (o ∷ os) p = absurd p
+  as-held (c ∷ cs) ws ns [] p = absurd p
+  as-held (c ∷ cs) ws ns (o ∷ os) p =
+      subst (λ (q : Outcome (F .Says) ℕ). o ∷ os ≡ q ∷ run (F .held) cs (ws ++ q .words) (ns ++ q .numbers)) (tied .only c (at ws) (at ns) o (p .0))
+      (ap (λ (l : List (Outcome (F .Says) ℕ)). o ∷ l) (as-held cs (ws ++ o .words) (ns ++ o .numbers) os (p .1)))
+
+  -- From starting words below 2^64 they may have those.
+  pub held-ran : (cs : List (F .Call)) (ws ns : List ℕ) → Words ws → Plays may cs ws ns (run (F .held) cs ws ns)
+  held-ran [] ws ns h = tt
+  held-ran (c ∷ cs) ws ns h =
       let o : Outcome (F .Says) ℕ = F .held c (at ws) (at ns) in (
-        can c (at ws) (at ns) (word-at ws h),
-        plays-held may can cs (ws ++ o .words) (ns ++ o .numbers) (words-append ws (o .words) h (agrees c ws ns h .below)),
+        tied .possible c (at ws) (at ns) (word-at ws h),
+        held-ran cs (ws ++ o .words) (ns ++ o .numbers) (words-append ws (o .words) h (agrees F respectful c ws ns h .below)),
       )
 
--- Where a call may have no outcome but one, a run may have no outcomes but one list.
-module _ {Call Says : Type 0} (may : Call → (ℕ → ℕ) → (ℕ → ℕ) → Outcome Says ℕ → Type 0) (step : Step Call Says)
-    (only : (c : Call) (s n : ℕ → ℕ) (o : Outcome Says ℕ) → may c s n o → o ≡ step c s n) where
-  pub plays-only : (cs : List Call) (ws ns : List ℕ) (os : List (Outcome Says ℕ)) → Plays may cs ws ns os → os ≡ run step cs ws ns
-  plays-only [] ws ns [] p = refl
-  plays-only [] ws ns (o ∷ os) p = absurd p
-  plays-only (c ∷ cs) ws ns [] p = absurd p
-  plays-only (c ∷ cs) ws ns (o ∷ os) p =
-      subst (λ (q : Outcome Says ℕ). o ∷ os ≡ q ∷ run step cs (ws ++ q .words) (ns ++ q .numbers)) (only c (at ws) (at ns) o (p .0))
-      (ap (λ (l : List (Outcome Says ℕ)). o ∷ l) (plays-only cs (ws ++ o .words) (ns ++ o .numbers) os (p .1)))
+  -- What is seen of any calls that the functions answer is what is shown of the whole-number run.
+  pub functions-run : (cs : List (F .Call)) (ws ns : List ℕ) → Words ws → (os : List (Outcome (F .Says) ℕ)) → Plays may cs ws ns os
+      → map seen os ≡ map shown (run (F .whole) cs (map element ws) ns)
+  functions-run cs ws ns h os p = ap (map seen) (as-held cs ws ns os p) ∙ sequence F respectful cs ws ns h
+
+  -- Run twice, from words that agree modulo P one by one, the functions are seen to answer alike.
+  pub run-twice : (cs : List (F .Call)) (ws vs ns : List ℕ) → Words ws → Words vs → map element ws ≡ map element vs
+      → (os ps : List (Outcome (F .Says) ℕ)) → Plays may cs ws ns os → Plays may cs vs ns ps → map seen os ≡ map seen ps
+  run-twice cs ws vs ns h k e os ps p q =
+      ap (map seen) (as-held cs ws ns os p) ∙ runs-alike F respectful cs ws vs ns h k e ∙ sym (ap (map seen) (as-held cs vs ns ps q))
 
 -- Two words encode alike exactly if they agree modulo P.
 pub encode-alike : (x y : ℕ) → (elementBytes x ≡ elementBytes y) ↔ (x % P ≡ y % P)
 encode-alike = same-bytes
 
--- Two families joined are a family of the same kind.
+-- Two families joined are a family of the same kind,
 pub joined : (F G : Family) → Respectful F → Respectful G → Respectful (both F G)
 joined F G f g (inl c) s n h = record { below = f c s n h .below; same = ap (named inl) (f c s n h .same) }
 joined F G f g (inr c) s n h = record { below = g c s n h .below; same = ap (named inr) (g c s n h .same) }
+
+-- and where both are tied to functions, so are they joined: all that stands above holds of them.
+module _ (F G : Family) {may : May (F .Call) (F .Says)} {might : May (G .Call) (G .Says)} (f : Tied F may) (g : Tied G might) where
+  either-only : (c : F .Call ⊎ G .Call) (s n : ℕ → ℕ) (o : Outcome (F .Says ⊎ G .Says) ℕ) → eitherMay may might c s n o → o ≡ both F G .held c s n
+  either-only (inl c) s n o (p, m, e) = e ∙ ap (named inl) (f .only c s n p m)
+  either-only (inr c) s n o (p, m, e) = e ∙ ap (named inr) (g .only c s n p m)
+
+  either-possible : (c : F .Call ⊎ G .Call) (s n : ℕ → ℕ) → ((i : ℕ) → s i < 2 ^ 64) → eitherMay may might c s n (both F G .held c s n)
+  either-possible (inl c) s n h = (F .held c s n, f .possible c s n h, refl)
+  either-possible (inr c) s n h = (G .held c s n, g .possible c s n h, refl)
+
+  pub joined-tied : Tied (both F G) (eitherMay may might)
+  joined-tied = record { only = either-only; possible = either-possible }

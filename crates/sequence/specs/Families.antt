@@ -9,6 +9,10 @@ use Rattle.sequence.specs.Outcomes.{Outcome, element, elements}
 abbrev pub Step : Type 0 → Type 0 → Type 0
 Step Call Says = Call → (ℕ → ℕ) → (ℕ → ℕ) → Outcome Says ℕ
 
+-- Which outcomes calls may have, from the words and the numbers at each place.
+abbrev pub May : Type 0 → Type 0 → Type 1
+May Call Says = Call → (ℕ → ℕ) → (ℕ → ℕ) → Outcome Says ℕ → Type 0
+
 -- Calls, what they say, how they are answered in held words, and how in whole numbers.
 pub record Family : Type 1 where
   pub Call : Type 0

@@ -3,7 +3,7 @@ use mathlib.Core.List.{List, [], _∷_, _++_}
 use Prim.Native.Nat.{ℕ}
 use lib.ListN.{getD}
 use Rattle.sequence.specs.Outcomes.{Outcome}
-use Rattle.sequence.specs.Families.{Step}
+use Rattle.sequence.specs.Families.{Step, May}
 
 -- What stands at a place, 0 where nothing does.
 abbrev pub at : List ℕ → ℕ → ℕ
@@ -15,9 +15,8 @@ run step [] ws ns = []
 run step (c ∷ cs) ws ns =
     step c (at ws) (at ns) ∷ run step cs (ws ++ step c (at ws) (at ns) .words) (ns ++ step c (at ws) (at ns) .numbers)
 
--- os may be the outcomes of the calls in turn, where `may` tells the outcomes that each call may have.
-abbrev pub Plays : {Call Says : Type 0} → (Call → (ℕ → ℕ) → (ℕ → ℕ) → Outcome Says ℕ → Type 0)
-    → List Call → List ℕ → List ℕ → List (Outcome Says ℕ) → Type 0
+-- os may be the outcomes of the calls in turn.
+abbrev pub Plays : {Call Says : Type 0} → May Call Says → List Call → List ℕ → List ℕ → List (Outcome Says ℕ) → Type 0
 Plays may [] ws ns [] = Unit {0}
 Plays may [] ws ns (o ∷ os) = ⊥
 Plays may (c ∷ cs) ws ns [] = ⊥
