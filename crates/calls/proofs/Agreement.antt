@@ -13,32 +13,32 @@ use lib.ListN.{length, length-map}
 use Rattle.prime.specs.Modulus.{P, seventh}
 use Rattle.prime.specs.Powers.{power}
 use Rattle.prime.specs.Residues.{Square}
+use Rattle.prime.specs.Elements.{half, residue}
 use Rattle.prime.proofs.Congruence.{add-same, mul-same, mul-same-left, mul-same-right, mul-mod}
 use Rattle.prime.proofs.Powers.{power-mod}
 use Rattle.prime.proofs.Theorems.{power-is, power-rest, inverse-power}
-use Rattle.prime.specs.Elements.{half, residue}
-use Rattle.limbs.specs.Limbs.{limbs}
-use Rattle.sums.specs.Sums.{limit, total, products, dotWord, dotRefusal}
-use Rattle.words.specs.Orders.{order}
+use Rattle.answers.specs.Answers.{kept}
 use Rattle.answers.proofs.Stands.{Stands, to}
-use Rattle.sums.proofs.Totals.{each-product, products-length}
+use Rattle.limbs.specs.Limbs.{limbs}
+use Rattle.words.specs.Orders.{order}
 use Rattle.words.proofs.Laws.{canonical-is, add-stands, sub-stands, neg-stands, reduce-stands, mul-stands, halve-stands, from-u128-stands}
-use Rattle.sums.proofs.SumLaws.{sum-stands, dot-stands}
-use Rattle.shifts.proofs.PowersOfTwo.{shift-up-stands, shift-down-stands}
 use Rattle.words.proofs.Signed.{from-i64-stands}
+use Rattle.shifts.proofs.PowersOfTwo.{shift-up-stands, shift-down-stands}
+use Rattle.sums.specs.Sums.{limit, total, products, dotWord, dotRefusal}
+use Rattle.sums.proofs.Totals.{each-product, products-length}
+use Rattle.sums.proofs.SumLaws.{sum-stands, dot-stands}
 use Rattle.roots.specs.Roots.{G, isSquare, rootWord}
 use Rattle.roots.proofs.Canonical.{power-stands}
 use Rattle.roots.proofs.SquareRootWord.{is-square, root-stands}
 use Rattle.wire.specs.Wire.{bytesOf, encoded}
 use Rattle.wire.specs.Refusals.{sizes}
-use Rattle.answers.specs.Answers.{kept}
 use Rattle.sequence.specs.Outcomes.{element}
 use Rattle.sequence.specs.Families.{Agrees, Respectful}
 use Rattle.sequence.proofs.Stores.{words-at}
 use Rattle.calls.specs.Calls.{add, sub, neg, reduce, mul, square, halve, sum, dot, from-i64, from-limbs, shift-up, shift-down, inverse, square-root, seventh-root, generator, equal, compare, is-zero, slot, encode, canonical-form, Says, truth, ordering, buffer, outcome, word, answered, figured, said, figure}
 use Rattle.calls.specs.WholeNumbers.{minus, over, signed, hasRoot, rootOf, seventhRootOf}
-use Rattle.calls.proofs.FirstRoot.{root-first}
 use Rattle.calls.specs.Operations.{operations}
+use Rattle.calls.proofs.FirstRoot.{root-first}
 use Rattle.calls.proofs.Solutions.{solve-is, difference, quotient, halved, shifted, seventh-rooted}
 
 -- ---- outcomes of each form agree

@@ -13,20 +13,20 @@ use Rattle.answers.specs.declared.refusals.Refusal.the-variants.{InverseOfZero,
 use Rattle.answers.specs.declared.replies.Answer.{Answer}
 use Rattle.answers.specs.declared.replies.Answer.the-variants.{Word, Refused}
 use Rattle.answers.specs.Answers.{number, codedRefusal, indexOf, kept}
-use Rattle.sums.specs.Sums.{limit}
-use Rattle.words.specs.Orders.{order}
 use Rattle.answers.specs.Promises.{Answered}
+use Rattle.answers.specs.declared.replies.Coded.{Coded}
+use Rattle.answers.specs.declared.replies.Coded.the-variants.{Done, Refused as RefusedAt}
 use Rattle.answers.proofs.Stands.{Stands, held as held-by, granted, refused}
+use Rattle.words.specs.Orders.{order}
 use Rattle.words.proofs.Laws.{seen as seen-by, canonical-stands, add-stands, sub-stands, neg-stands, reduce-stands, mul-stands, halve-stands, from-u128-stands, slot-stands}
-use Rattle.sums.proofs.SumLaws.{sum-stands}
-use Rattle.shifts.proofs.PowersOfTwo.{shift-up-stands, shift-down-stands}
 use Rattle.words.proofs.Signed.{from-i64-stands}
+use Rattle.shifts.proofs.PowersOfTwo.{shift-up-stands, shift-down-stands}
+use Rattle.sums.specs.Sums.{limit}
+use Rattle.sums.proofs.SumLaws.{sum-stands}
 use Rattle.roots.specs.Roots.{G, inverseWord, isSquare, rootWord}
 use Rattle.roots.specs.Promises.{Inverted, Rooted}
 use Rattle.roots.proofs.Canonical.{power-stands, not-inverted}
 use Rattle.roots.proofs.SquareRootWord.{is-square, rooted, unrooted}
-use Rattle.answers.specs.declared.replies.Coded.{Coded}
-use Rattle.answers.specs.declared.replies.Coded.the-variants.{Done, Refused as RefusedAt}
 use Rattle.wire.specs.Wire.{encoded}
 use Rattle.wire.specs.Refusals.{limit as codingLimit, sizes}
 use Rattle.wire.specs.Promises.{Encoded}

@@ -7,11 +7,11 @@ use borrow.Author.Tests.{eqb-true, eq-eqb}
 use lib.Dec.{lit<}
 use Rattle.prime.specs.Modulus.{P, seventh}
 use Rattle.prime.specs.Powers.{power}
+use Rattle.prime.specs.Elements.{half}
 use Rattle.prime.proofs.Congruence.{same, add-same, mul-same-left, times-one}
 use Rattle.prime.proofs.Powers.{power-mod, power-below}
 use Rattle.prime.proofs.Search.{least-only}
 use Rattle.prime.proofs.Theorems.{power-is, power-of-root, root-of-power}
-use Rattle.prime.specs.Elements.{half}
 use Rattle.prime.proofs.Halves.{halves-undo}
 use Rattle.calls.specs.WholeNumbers.{solve, The}
 

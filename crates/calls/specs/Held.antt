@@ -5,14 +5,14 @@ use Prim.Native.Nat.{ℕ, _%_, _^_}
 use lib.Dec.{eqb, leb}
 use lib.ListN.{length}
 use Rattle.prime.specs.Modulus.{P}
+use Rattle.answers.specs.Answers.{kept}
 use Rattle.words.specs.Words.{canonical, addWord, subWord, negWord, reduceWord, mulWord, halveWord, fromI64Word, fromU128Word}
+use Rattle.words.specs.Orders.{order}
 use Rattle.shifts.specs.Shifts.{shiftUpWord, shiftDownWord}
 use Rattle.sums.specs.Sums.{limit, sumWord, dotWord, dotRefusal}
-use Rattle.words.specs.Orders.{order}
 use Rattle.roots.specs.Roots.{inverseWord, isSquare, rootWord, seventhWord, generatorWord}
 use Rattle.wire.specs.Wire.{encoded}
 use Rattle.wire.specs.Refusals.{sizes}
-use Rattle.answers.specs.Answers.{kept}
 use Rattle.sequence.specs.Outcomes.{Outcome}
 use Rattle.calls.specs.Calls.{Call, add, sub, neg, reduce, mul, square, halve, sum, dot, from-i64, from-limbs, shift-up, shift-down, inverse, square-root, seventh-root, generator, equal, compare, is-zero, slot, encode, canonical-form, Says, truth, ordering, buffer, word, answered, figured, said}
 

@@ -9,12 +9,12 @@ use lib.ListN.{length}
 use Rattle.prime.specs.Modulus.{P}
 use Rattle.prime.specs.Powers.{power}
 use Rattle.prime.specs.Search.{least}
-use Rattle.sums.specs.Sums.{limit, total, products, dotRefusal}
+use Rattle.answers.specs.Answers.{kept}
 use Rattle.words.specs.Orders.{order}
+use Rattle.sums.specs.Sums.{limit, total, products, dotRefusal}
 use Rattle.roots.specs.Roots.{G}
 use Rattle.wire.specs.Wire.{bytesOf}
 use Rattle.wire.specs.Refusals.{sizes}
-use Rattle.answers.specs.Answers.{kept}
 use Rattle.sequence.specs.Outcomes.{Outcome}
 use Rattle.calls.specs.Calls.{Call, add, sub, neg, reduce, mul, square, halve, sum, dot, from-i64, from-limbs, shift-up, shift-down, inverse, square-root, seventh-root, generator, equal, compare, is-zero, slot, encode, canonical-form, Says, truth, ordering, buffer, word, answered, figured, said}
 

@@ -1,5 +1,5 @@
 -- Products of two words by halves of 32 bits, in two limbs.
-use mathlib.Core.Path.{_≡_, ap₂, subst⁻¹}
+use mathlib.Core.Path.{_≡_, subst⁻¹}
 use Prim.Native.Nat.{ℕ, _+_, _-_, _*_, _/_, _%_, _^_, _<_, _≤_}
 use native.Mathlib.Nat.{le-of-lt, lt-of-le-of-lt, mul-le-mul, mul-le-mul-left, mul-lt-mul-of-pos-right, div-add-mod, mod-add-div, mod-eq-of-lt}
 use native.Mathlib.Omega.{arith}

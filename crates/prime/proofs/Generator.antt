@@ -9,9 +9,9 @@ use native.Mathlib.Nat.{mod-lt, one-mul, mul-zero, mul-suc, zero-lt-suc, pos-of-
 use native.Mathlib.Decide.{ℕ-discrete, decLe}
 use lib.Dec.{T}
 use Rattle.prime.specs.Lists.{Each}
-use Rattle.prime.proofs.Certificate.{product, pratt}
 use Rattle.prime.specs.Powers.{power}
 use Rattle.prime.specs.Residues.{Multiple}
+use Rattle.prime.proofs.Certificate.{product, pratt}
 use Rattle.prime.proofs.Fields.{Inverse, Field, Generates}
 use Rattle.prime.proofs.Congruence.{mul-same-left, multiple-of-zero, zero-times}
 use Rattle.prime.proofs.Powers.{power-mod, power-below, power-add, power-more}

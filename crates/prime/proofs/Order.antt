@@ -11,10 +11,10 @@ use native.Mathlib.Nat.{mul-one, mul-assoc, mul-left-comm}
 use lib.Dec.{T, eqb, eqb→eq, T-not}
 use mir.Facts.{and-yes}
 use Rattle.prime.specs.Lists.{Each}
-use Rattle.prime.proofs.Certificate.{product, pratt}
 use Rattle.prime.specs.Powers.{power}
-use Rattle.prime.proofs.Fast.{fast, fast-power}
 use Rattle.prime.specs.Residues.{Multiple}
+use Rattle.prime.proofs.Certificate.{product, pratt}
+use Rattle.prime.proofs.Fast.{fast, fast-power}
 use Rattle.prime.proofs.Fields.{Inverse, Field}
 use Rattle.prime.proofs.Powers.{power-times, power-more}
 

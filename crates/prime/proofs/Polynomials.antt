@@ -9,8 +9,8 @@ use native.Mathlib.Nat.{zero-mod, zero-lt-suc}
 use native.Mathlib.Decide.{ℕ-discrete}
 use lib.ListN.{length}
 use Rattle.prime.specs.Lists.{Each}
-use Rattle.prime.proofs.Fields.{Field}
 use Rattle.prime.specs.Polynomials.{value, Root, Zero, Different}
+use Rattle.prime.proofs.Fields.{Field}
 use Rattle.prime.proofs.Congruence.{same, multiple-of-zero}
 use Rattle.prime.proofs.Inverses.{cancel}
 

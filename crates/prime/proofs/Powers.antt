@@ -1,8 +1,8 @@
 -- The laws of powers modulo m. Each is a law of whole numbers, carried over by `power m x e ≡ x ^ e % m`.
-use mathlib.Core.Path.{_≡_, refl, sym, ap, _∙_}
+use mathlib.Core.Path.{_≡_, sym, ap, _∙_}
 use Prim.Native.Nat.{ℕ, zero, suc, _+_, _*_, _%_, _/_, _^_, _<_}
 use native.Mathlib.Omega.{arith}
-use native.Mathlib.Nat.{pow-suc, pow-zero, mod-mod, mul-comm, mul-suc, one-mul, mul-one, mod-add-div, mod-eq-of-lt, mod-lt, lt-irrefl}
+use native.Mathlib.Nat.{pow-suc, mod-mod, mul-comm, mul-suc, one-mul, mul-one, mod-add-div, mod-eq-of-lt, mod-lt, lt-irrefl}
 use native.Mathlib.Numerals.{unary-clauses}
 use lib.Pow.{pow-add}
 use Rattle.prime.specs.Powers.{power, power-zero, power-suc}

@@ -6,8 +6,8 @@ use native.Mathlib.Omega.{arith}
 use native.Mathlib.Nat.{mod-eq-of-lt, mul-comm, mul-assoc, mul-one, mul-zero, mul-suc, eq-of-mul-eq-mul-left, suc-ne-zero}
 use native.Mathlib.Decide.{ℕ-discrete}
 use Rattle.prime.specs.Powers.{power, power-suc}
-use Rattle.prime.proofs.Fields.{Field, Generates}
 use Rattle.prime.specs.Residues.{Square}
+use Rattle.prime.proofs.Fields.{Field, Generates}
 use Rattle.prime.proofs.Congruence.{mul-same, mul-same-left, mul-same-right, zero-times}
 use Rattle.prime.proofs.Powers.{power-mod, power-add, power-mul, power-base, power-same, power-times, power-of-zero}
 use Rattle.prime.proofs.Inverses.{inverse, no-zero-divisors}

@@ -10,9 +10,9 @@ use lib.ListN.{length}
 use Rattle.prime.specs.Modulus.{P, generator, seventh}
 use Rattle.prime.specs.Lists.{Each}
 use Rattle.prime.specs.Powers.{power, power-suc}
-use Rattle.prime.proofs.Fast.{fast}
 use Rattle.prime.specs.Residues.{Multiple, Square}
 use Rattle.prime.specs.Polynomials.{Root, Zero, Different}
+use Rattle.prime.proofs.Fast.{fast}
 use Rattle.prime.proofs.Powers as powers
 use Rattle.prime.proofs.Fast as quick
 use Rattle.prime.proofs.Congruence.{same}

@@ -11,8 +11,8 @@ use Rattle.prime.proofs.Powers.{power-mod, power-below}
 use Rattle.prime.proofs.Theorems.{inverse-power, power-of-root}
 use Rattle.answers.specs.declared.refusals.Refusal.the-variants.{InverseOfZero}
 use Rattle.answers.specs.declared.replies.Answer.the-variants.{Word, Refused}
-use Rattle.words.specs.Words.{canonical}
 use Rattle.answers.proofs.Stands.{Stands, held, granted, refused}
+use Rattle.words.specs.Words.{canonical}
 use Rattle.words.proofs.Laws.{canonical-is}
 use Rattle.roots.specs.Promises.{Inverted, SeventhRoot}
 

@@ -10,8 +10,8 @@ use lib.Dec.{eqb→eq}
 use lib.Pow.{pow-add}
 use Rattle.prime.specs.Modulus.{P, generator}
 use Rattle.prime.specs.Powers.{power}
-use Rattle.prime.proofs.Fast.{fast}
 use Rattle.prime.specs.Residues.{Multiple}
+use Rattle.prime.proofs.Fast.{fast}
 use Rattle.prime.proofs.Congruence.{same, add-same, mul-same-left, mul-same-right}
 use Rattle.prime.proofs.Powers.{power-mod}
 use Rattle.prime.proofs.Theorems.{fast-power, power-add, power-mul, power-base, no-zero-divisors, order}

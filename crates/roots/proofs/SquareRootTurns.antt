@@ -14,8 +14,8 @@ use Rattle.prime.proofs.Search.{Least}
 use Rattle.prime.proofs.Theorems.{power-mul, euler}
 use Rattle.answers.specs.declared.refusals.Refusal.the-variants.{NoSquareRoot}
 use Rattle.answers.specs.declared.replies.Answer.the-variants.{Word, Refused}
-use Rattle.words.specs.Words.{canonical}
 use Rattle.answers.specs.Promises.{Held}
+use Rattle.words.specs.Words.{canonical}
 use Rattle.words.proofs.Laws.{canonical-is}
 use Rattle.roots.specs.Promises.{Rooted}
 use Rattle.roots.specs.Roots.{G, generatorWord, orderLog}

@@ -15,9 +15,9 @@ use Rattle.prime.proofs.Congruence.{mul-same, mul-mod, times-one}
 use Rattle.prime.proofs.Powers.{power-mod}
 use Rattle.prime.proofs.Theorems.{power-add}
 use Rattle.prime.proofs.Search.{least-law, least-first, least-only}
+use Rattle.prime.proofs.Choice.{by-eq}
 use Rattle.answers.specs.declared.refusals.Refusal.the-variants.{NoSquareRoot}
 use Rattle.answers.specs.declared.replies.Answer.the-variants.{Word, Refused}
-use Rattle.prime.proofs.Choice.{by-eq}
 use Rattle.answers.proofs.Stands.{Stands, granted, refused}
 use Rattle.roots.specs.Promises.{Rooted}
 use Rattle.roots.specs.Roots.{G, isSquare, exponent, rootWord}

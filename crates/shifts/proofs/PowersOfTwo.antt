@@ -7,17 +7,17 @@ use lib.Dec.{lit<}
 use lib.Pow.{pow-add, pow-mono, pow-pos, shr-lt, split}
 use Rattle.prime.specs.Modulus.{P}
 use Rattle.prime.specs.Powers.{power}
+use Rattle.prime.specs.Elements.{half}
 use Rattle.prime.proofs.Congruence.{same, mul-same-left, mul-same-right, times-one}
 use Rattle.prime.proofs.Powers.{power-period}
 use Rattle.prime.proofs.Theorems.{power-is, power-add, two-96}
 use Rattle.prime.proofs.Halves.{two-period, half-period, halves-undo, undo, there-and-back}
-use Rattle.prime.specs.Elements.{half}
-use Rattle.shifts.specs.Shifts.{entry, upWord, shiftUpWord, splitWord, downWord, shiftDownWord}
-use Rattle.words.specs.Words.{negWord}
 use Rattle.prime.proofs.Choice.{by-lt, by-le, by-eq}
 use Rattle.answers.proofs.Stands.{Stands, itself, to}
+use Rattle.words.specs.Words.{negWord}
 use Rattle.words.proofs.Corrections.{plus-stands}
 use Rattle.words.proofs.Laws.{add-stands, neg-stands, mul-stands, halve-stands}
+use Rattle.shifts.specs.Shifts.{entry, upWord, shiftUpWord, splitWord, downWord, shiftDownWord}
 
 -- the shift up
 

@@ -9,8 +9,8 @@ use lib.ListN.{length, drop, getD, drop-of-length-le}
 use lib.Seq.{drop-cons}
 use Rattle.prime.specs.Modulus.{P}
 use Rattle.limbs.specs.Limbs.{limbs}
-use Rattle.sums.specs.Sums.{limit, total, products, lowSum, highSum, foldedSum}
 use Rattle.limbs.proofs.Carries.{limbs-word, unwrapped}
+use Rattle.sums.specs.Sums.{limit, total, products, lowSum, highSum, foldedSum}
 use Rattle.sums.proofs.Totals.{Slice, each-word, each-product, products-length, low-fits, high-fits}
 
 -- the sum of a part f of each product: one more pair, and the end

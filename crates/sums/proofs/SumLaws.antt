@@ -11,15 +11,15 @@ use lib.Seq.{drop-cons}
 use borrow.Author.Tests.{le-leb, lt-leb, eq-eqb, ne-eqb}
 use Rattle.prime.specs.Modulus.{P}
 use Rattle.prime.proofs.Congruence.{same, add-same}
-use Rattle.limbs.specs.Limbs.{largest}
-use Rattle.words.specs.Words.{Words, addWord, wideWord, mulWord}
-use Rattle.sums.specs.Sums.{limit, total, sumWord, products, lowSum, highSum, foldedSum, offset, lessOffset, dotProducts, dotWord, dotRefusal}
+use Rattle.prime.proofs.Choice.{by-lt}
 use Rattle.answers.specs.declared.refusals.Refusal.the-variants.{LengthsDiffer, TooMany}
 use Rattle.answers.specs.declared.replies.Answer.the-variants.{Word, Refused}
-use Rattle.sums.specs.Promises.{Summed, Dotted}
-use Rattle.prime.proofs.Choice.{by-lt}
 use Rattle.answers.proofs.Stands.{Stands, itself, to, granted, refused}
+use Rattle.limbs.specs.Limbs.{largest}
+use Rattle.words.specs.Words.{Words, addWord, wideWord, mulWord}
 use Rattle.words.proofs.Laws.{add-stands, wide-stands}
+use Rattle.sums.specs.Sums.{limit, total, sumWord, products, lowSum, highSum, foldedSum, offset, lessOffset, dotProducts, dotWord, dotRefusal}
+use Rattle.sums.specs.Promises.{Summed, Dotted}
 use Rattle.sums.proofs.Totals.{Slice, Products, each-word, total-fits, each-product, products-length, low-fits, high-fits}
 
 -- ---- a list by its first k entries

@@ -14,9 +14,9 @@ use mir.Val.{Fits}
 use Rattle.prime.specs.Modulus.{P}
 use Rattle.prime.specs.Lists.{Each}
 use Rattle.limbs.specs.Limbs.{largest}
+use Rattle.limbs.proofs.Products.{product-below, product-most}
 use Rattle.words.specs.Words.{Words}
 use Rattle.sums.specs.Sums.{limit, total, products, lowSum, highSum}
-use Rattle.limbs.proofs.Products.{product-below, product-most}
 
 -- what is known of a slice of words, by place; so entry by entry
 abbrev pub Slice : List ℕ → Type 0

@@ -7,8 +7,8 @@ use borrow.Author.Tests.{lt-ltb, le-ltb, le-leb, lt-leb, eq-eqb, ne-eqb}
 use lib.Dec.{eqb}
 use lib.ListN.{length}
 use Rattle.answers.specs.declared.replies.Coded.{Coded}
-use Rattle.wire.specs.Wire.{encoded, groups, firstBad}
 use Rattle.answers.specs.Answers.{codedRefusal, indexOf, kept}
+use Rattle.wire.specs.Wire.{encoded, groups, firstBad}
 use Rattle.wire.specs.Refusals.{limit, sizes, reading}
 use Rattle.wire.specs.Promises.{Encoded, Decoded}
 

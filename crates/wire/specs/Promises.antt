@@ -6,8 +6,8 @@ use Prim.Native.Nat.{ℕ}
 use lib.Dec.{eqb}
 use lib.ListN.{length}
 use Rattle.answers.specs.declared.replies.Coded.{Coded}
-use Rattle.wire.specs.Wire.{encoded, groups, firstBad}
 use Rattle.answers.specs.Answers.{codedRefusal, indexOf, kept}
+use Rattle.wire.specs.Wire.{encoded, groups, firstBad}
 use Rattle.wire.specs.Refusals.{sizes, reading}
 
 -- The words ws were to be written into a buffer of bytes.

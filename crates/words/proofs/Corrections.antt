@@ -6,9 +6,9 @@ use native.Mathlib.Omega.{arith}
 use borrow.Author.Tests.{lt-ltb, le-ltb, le-leb, lt-leb}
 use Rattle.prime.specs.Modulus.{P}
 use Rattle.prime.proofs.Congruence.{same}
-use Rattle.words.specs.Words.{lessP, plusP, addWord, subWord}
 use Rattle.prime.proofs.Choice.{by-lt, by-le}
 use Rattle.answers.proofs.Stands.{Stands}
+use Rattle.words.specs.Words.{lessP, plusP, addWord, subWord}
 
 less-none : (n : ℕ) → n < 2 ^ 64 → lessP n ≡ n
 less-none n h = simp (lt-ltb n (2 ^ 64) h)

@@ -2,24 +2,24 @@
 use mathlib.Core.Path.{_≡_, refl, ap, ap₂, _∙_}
 use mathlib.Core.Bool.{true}
 use mathlib.Core.Logic.{_↔_}
-use Prim.Native.Nat.{ℕ, _+_, _-_, _*_, _/_, _%_, _^_, _<_, _≤_}
+use Prim.Native.Nat.{ℕ, _+_, _-_, _*_, _/_, _%_, _^_, _<_}
 use native.Mathlib.Nat.{mod-add-div, mod-lt, mod-le, mod-mod, mod-eq-of-lt, lt-of-le-of-lt}
 use native.Mathlib.Omega.{arith}
 use borrow.Author.Tests.{eqb-true, eq-eqb}
 use lib.Dec.{eqb, lit<}
 use lib.Pow.{pow-pos, shr-lt}
 use Rattle.prime.specs.Modulus.{P}
+use Rattle.prime.specs.Elements.{half}
 use Rattle.prime.proofs.Congruence.{same, add-same, mul-same-right}
 use Rattle.prime.proofs.Theorems.{opposite}
 use Rattle.prime.proofs.Halves.{halved}
-use Rattle.prime.specs.Elements.{half}
-use Rattle.limbs.specs.Limbs.{limbs}
-use Rattle.words.specs.Words.{canonical, lessP, plusP, addWord, subWord, negWord, reduceWord, wideWord, mulWord, halveWord, fromU128Word}
-use Rattle.answers.specs.Promises.{Seen}
 use Rattle.prime.proofs.Choice.{by-lt, by-le, by-eq}
+use Rattle.answers.specs.Promises.{Seen}
 use Rattle.answers.proofs.Stands.{Stands, to}
-use Rattle.words.proofs.Corrections.{less-below, less-element, plus-stands}
+use Rattle.limbs.specs.Limbs.{limbs}
 use Rattle.limbs.proofs.Products.{product-below}
+use Rattle.words.specs.Words.{canonical, lessP, plusP, addWord, subWord, negWord, reduceWord, wideWord, mulWord, halveWord, fromU128Word}
+use Rattle.words.proofs.Corrections.{less-below, less-element, plus-stands}
 
 -- the canonical form is the remainder by P
 

@@ -12,9 +12,9 @@ use mir.Val.{SFits, toZ, ofZ}
 use mir.ValLaws.{toZ-ofZ, toZ-pos}
 use Rattle.prime.specs.Modulus.{P}
 use Rattle.prime.specs.Elements.{residue}
-use Rattle.words.specs.Words.{fromI64Word, bound, inRange}
-use Rattle.answers.proofs.Stands.{Stands}
 use Rattle.prime.proofs.Theorems.{opposite}
+use Rattle.answers.proofs.Stands.{Stands}
+use Rattle.words.specs.Words.{fromI64Word, bound, inRange}
 
 pub from-i64-stands : (z : ℤ) → SFits w64 z → Stands (residue z) (fromI64Word z)
 from-i64-stands (pos n) f = record { below = omega (arith, f .sfits); element = refl }

@@ -2,8 +2,8 @@
 ghost use Prim.Native.Nat.{_+_, _-_, _*_, _%_};
 ghost use Rattle.prime.specs.Modulus.{P};
 ghost use Rattle.prime.specs.Elements.{half};
-ghost use Rattle.words.specs.Words.{addWord, subWord, negWord, halveWord};
 ghost use Rattle.answers.specs.Promises.{Held};
+ghost use Rattle.words.specs.Words.{addWord, subWord, negWord, halveWord};
 use super::canonical::as_canonical_u64;
 use super::constants::NEG_ORDER;
 use super::constants::ORDER_U64;

@@ -2,9 +2,9 @@
 ghost use Prim.Native.Nat.{_%_};
 ghost use lib.Dec.{eqb};
 ghost use Rattle.prime.specs.Modulus.{P};
+ghost use Rattle.answers.specs.Promises.{Held, Seen};
 ghost use Rattle.words.specs.Words.{canonical};
 ghost use Rattle.words.specs.Orders.{order};
-ghost use Rattle.answers.specs.Promises.{Held, Seen};
 use super::constants::ORDER_U64;
 
 // x if it is below P, else x - P.

@@ -2,9 +2,9 @@
 ghost use Prim.Native.Nat.{_%_};
 ghost use Rattle.prime.specs.Modulus.{P};
 ghost use Rattle.prime.specs.Elements.{residue};
+ghost use Rattle.answers.specs.Promises.{Held};
 ghost use Rattle.limbs.specs.Limbs.{limbs};
 ghost use Rattle.words.specs.Words.{fromI64Word, fromU128Word};
-ghost use Rattle.answers.specs.Promises.{Held};
 ghost use Rattle.words.specs.Promises.{CheckedU64, CheckedI64};
 use super::canonical::as_canonical_u64;
 use super::constants::ORDER_U64;

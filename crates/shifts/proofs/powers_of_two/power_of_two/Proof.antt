@@ -2,8 +2,8 @@
 use mathlib.Core.Path.{_≡_, refl, sym, ap, _∙_}
 use Prim.Native.Nat.{ℕ}
 use native.Mathlib.Omega.{arith}
-use Rattle.shifts.specs.Shifts.{entry}
 use Rattle.prime.proofs.Tables.{past-keys}
+use Rattle.shifts.specs.Shifts.{entry}
 use Rattle.shifts.proofs.powers_of_two.power_of_two.Statement.{statement}
 use Rattle.shifts.proofs.powers_of_two.power_of_two.Tie as tie
 

@@ -5,18 +5,18 @@ use native.Mathlib.Omega.{arith}
 use borrow.Author.Needs.{needs}
 use borrow.Fn.Kinds.{In}
 use borrow.Fn.PlainCycle.{Measures, is, falls, and}
+use Rattle.answers.proofs.Stands.{held}
+use Rattle.words.specs.Words.{mulWord}
+use Rattle.words.proofs.add.Reads as add
+use Rattle.words.proofs.neg.Reads as neg
+use Rattle.shifts.proofs.Arms.{up-none, up-once, up-table, up-negative, up-rest}
+use Rattle.shifts.proofs.PowersOfTwo.{shift-up-stands}
 use Rattle.shifts.proofs.up.mul_2exp_u64.Reads as mul-2exp-u64
 use Rattle.shifts.proofs.up.mul_2exp_u64.Kinds as kinds
 use Rattle.shifts.proofs.up.+mul_2exp_u64.Lts-mul_2exp_u64 as body
-use Rattle.words.proofs.add.Reads as add
-use Rattle.words.proofs.neg.Reads as neg
 use Rattle.shifts.proofs.powers_of_two.mul_by_entry.Reads as mul-by-entry
 use Rattle.shifts.proofs.up.+mul_2exp_u64.{statement}
 use Rattle.shifts.proofs.up.+mul_2exp_u64.Tie.{close}
-use Rattle.words.specs.Words.{mulWord}
-use Rattle.answers.proofs.Stands.{held}
-use Rattle.shifts.proofs.Arms.{up-none, up-once, up-table, up-negative, up-rest}
-use Rattle.shifts.proofs.PowersOfTwo.{shift-up-stands}
 
 abbrev μ : Measures 0 kinds.ps ℕ
 μ κs a = a .1 .0

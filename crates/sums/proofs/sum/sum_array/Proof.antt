@@ -5,9 +5,9 @@ use borrow.Author.Needs.{needs}
 use borrow.Author.Tests.{lt-leb}
 use lib.ListN.{length}
 use Rattle.answers.specs.declared.refusals.Refusal.the-variants.{TooMany}
-use Rattle.sums.specs.Sums.{limit}
 use Rattle.answers.proofs.Stands.{refused}
 use Rattle.words.proofs.Reductions.{reduce-limbs}
+use Rattle.sums.specs.Sums.{limit}
 use Rattle.sums.proofs.SumLaws.{summed, sum-none, sum-one, sum-two, sum-three, sum-more}
 use Rattle.sums.proofs.sum.sum_array.Statement.{statement}
 use Rattle.sums.proofs.sum.sum_array.Tie as tie

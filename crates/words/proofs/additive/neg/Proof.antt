@@ -4,8 +4,8 @@ use Prim.Native.Nat.{ℕ, _-_}
 use borrow.Author.Needs.{needs}
 use native.Mathlib.Omega.{arith}
 use Rattle.prime.specs.Modulus.{P}
-use Rattle.words.specs.Words.{negWord}
 use Rattle.answers.proofs.Stands.{held}
+use Rattle.words.specs.Words.{negWord}
 use Rattle.words.proofs.Laws.{neg-stands, canonical-is}
 use Rattle.words.proofs.additive.neg.Statement.{statement}
 use Rattle.words.proofs.additive.neg.Tie as tie

@@ -2,8 +2,8 @@
 use native.Mathlib.Omega.{arith}
 use borrow.Author.Tests.{lt-ltb, le-ltb}
 use Rattle.prime.specs.Modulus.{P}
-use Rattle.words.specs.Words.{canonical}
 use Rattle.answers.proofs.Stands.{held}
+use Rattle.words.specs.Words.{canonical}
 use Rattle.words.proofs.Laws.{canonical-stands}
 use Rattle.words.proofs.canonical.as_canonical_u64.Statement.{statement}
 use Rattle.words.proofs.canonical.as_canonical_u64.Tie as tie

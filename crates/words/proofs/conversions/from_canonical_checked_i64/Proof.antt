@@ -4,8 +4,8 @@ use borrow.Author.Needs.{needs}
 use mir.Syntax.{w64}
 use mir.ValLaws.{toZ-ofZ}
 use Rattle.answers.specs.declared.refusals.Refusal.the-variants.{OutOfRange}
-use Rattle.words.specs.Words.{fromI64Word}
 use Rattle.answers.proofs.Stands.{granted, refused}
+use Rattle.words.specs.Words.{fromI64Word}
 use Rattle.words.proofs.Signed.{from-i64-stands, below-range, above-range, within-range}
 use Rattle.words.proofs.conversions.from_canonical_checked_i64.Statement.{statement}
 use Rattle.words.proofs.conversions.from_canonical_checked_i64.Tie as tie

@@ -1,7 +1,7 @@
 -- The canonical form of the reduction.
 use borrow.Author.Needs.{needs}
-use Rattle.words.specs.Words.{canonical, fromU128Word}
 use Rattle.answers.proofs.Stands.{held, through}
+use Rattle.words.specs.Words.{canonical, fromU128Word}
 use Rattle.words.proofs.Laws.{from-u128-stands}
 use Rattle.words.proofs.conversions.from_u128.Statement.{statement}
 use Rattle.words.proofs.conversions.from_u128.Tie as tie

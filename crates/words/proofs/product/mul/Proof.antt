@@ -1,8 +1,8 @@
 -- The limbs of the product are its remainder and its quotient by 2^64.
 use mathlib.Core.Path.{_∙_}
 use borrow.Author.Needs.{needs}
-use Rattle.words.specs.Words.{mulWord}
 use Rattle.answers.proofs.Stands.{held}
+use Rattle.words.specs.Words.{mulWord}
 use Rattle.words.proofs.Reductions.{reduce-limbs}
 use Rattle.words.proofs.Laws.{mul-stands}
 use Rattle.words.proofs.product.mul.Statement.{statement}
