@@ -2,11 +2,11 @@
 use mathlib.Core.Path.{_≡_}
 use Prim.Native.Nat.{ℕ}
 use lib.IntN.{ℤ, pos, negsuc}
-use Rattle.words.specs.declared.canonical.Ordering.{Ordering}
-use Rattle.words.specs.declared.canonical.Ordering.the-variants.{Less, Equal, Greater}
 use Rattle.answers.specs.declared.replies.Answer.{Answer}
 use Rattle.answers.specs.Answers.{refusalOf, wordOf, codedRefusal, indexOf}
 use Rattle.answers.specs.declared.replies.Coded.{Coded}
+use Rattle.words.specs.declared.canonical.Ordering.{Ordering}
+use Rattle.words.specs.declared.canonical.Ordering.the-variants.{Less, Equal, Greater}
 
 -- The refusal's number, 0 for none, and the word, 0 with a refusal.
 abbrev pub numberAndWord : Answer → ℕ × ℕ

@@ -1,5 +1,6 @@
 //! The exported functions, the C header and the Rust declarations name the same functions with the same parameters, in document 01's order; those are the
 //! public operations; and the C test calls each of them. A function is compared as one line, as `slot(x: u64, k: u64, word: *mut u64) -> u64`.
+//! The exported functions stand in modules, so 01's order is asked within each.
 
 use std::fs;
 
@@ -68,9 +69,14 @@ fn number(kind: &str) -> &str {
     }
 }
 
-fn exported() -> Vec<String> {
-    let functions = between(&text("crates/lichenfrock/src/lib.rt"), &format!("extern \"C\" fn {PREFIX}"), " ensures");
-    functions.iter().map(|function| declaration(function, of_rattle)).collect()
+/// The exported functions of each module that the library's root names.
+fn exported() -> Vec<Vec<String>> {
+    let of_module = |module: &String| {
+        let module = text(&format!("crates/lichenfrock/src/{module}.rt"));
+        let functions = between(&module, &format!("extern \"C\" fn {PREFIX}"), " ensures");
+        functions.iter().map(|function| declaration(function, of_rattle)).collect()
+    };
+    between(&text("crates/lichenfrock/src/lib.rt"), "mod ", ";").iter().map(of_module).collect()
 }
 
 fn declared_in_rust() -> Vec<String> {
@@ -89,22 +95,33 @@ fn declared_in_c() -> Vec<String> {
         .collect()
 }
 
-#[test]
-fn all_declare_the_same_functions() {
-    assert_eq!(declared_in_c(), exported());
-    assert_eq!(declared_in_rust(), exported());
+fn sorted(mut functions: Vec<String>) -> Vec<String> {
+    functions.sort();
+    functions
 }
 
 #[test]
-fn every_operation_is_exported_and_called() {
+fn all_declare_the_same_functions() {
+    let declared = declared_in_c();
+    assert_eq!(declared_in_rust(), declared);
+    let exported = exported();
+    assert_eq!(sorted(exported.concat()), sorted(declared.clone()));
+    for functions in exported {
+        let in_order: Vec<String> = declared.iter().filter(|function| functions.contains(function)).cloned().collect();
+        assert_eq!(functions, in_order);
+    }
+}
+
+#[test]
+fn every_operation_is_declared_and_called() {
     let operations = between(&text("crates/goldilocks/src/lib.rt"), "pub use ", ";");
     let operations = operations
         .iter()
         .map(|path| path.split_once("::").unwrap().1)
         .filter(|name| name.starts_with(char::is_lowercase));
     let operations: Vec<&str> = operations.collect();
-    let exported = exported();
-    let names: Vec<&str> = exported.iter().map(|function| function.split_once('(').unwrap().0).collect();
+    let declared = declared_in_c();
+    let names: Vec<&str> = declared.iter().map(|function| function.split_once('(').unwrap().0).collect();
     assert!(!names.is_empty());
     assert_eq!(names, operations);
     let test = text("c/every_function.c");
