@@ -2,7 +2,8 @@
 use mathlib.Core.Path.{_≡_, refl, sym, ap₂, _∙_}
 use mathlib.Core.Bool.{Bool, true, false, cond}
 use mathlib.Core.List.{List, [], _∷_}
-use Prim.Native.Nat.{ℕ, zero, suc}
+use Prim.Native.Nat.{ℕ, zero, suc, _≤_}
+use native.Mathlib.Omega.{arith}
 use lib.ListN.{getD}
 use Rattle.answers.specs.declared.refusals.Refusal.{Refusal}
 use Rattle.answers.specs.declared.refusals.Refusal.the-variants.{OutOfRange, InverseOfZero, NoSquareRoot, LengthsDiffer, TooMany, WrongLength, Above32, Unreadable}
@@ -59,3 +60,15 @@ pub coded-is : (r : Coded) → r ≡ coded (codedRefusal r) (indexOf r)
 unfolding coded numbered
 coded-is Done = refl
 coded-is (RefusedAt r i) = numbered-is Done (λ r. RefusedAt r i) r
+
+-- ---- a refusal's number has at most two digits: the papers' numbers grow with the requests, and this bound is for all of them
+
+pub two-digits : (r : Refusal) → number r ≤ 99
+two-digits OutOfRange = omega arith
+two-digits InverseOfZero = omega arith
+two-digits NoSquareRoot = omega arith
+two-digits LengthsDiffer = omega arith
+two-digits TooMany = omega arith
+two-digits WrongLength = omega arith
+two-digits Above32 = omega arith
+two-digits Unreadable = omega arith

@@ -6,13 +6,17 @@ use Prim.Native.Nat.{ℕ, _*_, _≤_}
 use native.Mathlib.Omega.{arith}
 use lib.Dec.{eqb}
 use lib.ListN.{length, length-append}
+use Rattle.prime.proofs.Choice.{by-eq}
 use Rattle.answers.specs.declared.replies.Answer.{Answer}
 use Rattle.answers.specs.declared.replies.Answer.the-variants.{Word, Refused}
+use Rattle.answers.specs.Answers.{number}
+use Rattle.text.specs.Digits.{hex}
+use Rattle.text.specs.Decimals.{decimal}
+use Rattle.text.proofs.DigitLaws.{length-digits}
 use Rattle.desk_line.specs.declared.desk.Desk.{Desk}
-use Rattle.desk_line.specs.Replies.{answerTo, hex, reply, text}
+use Rattle.desk_line.specs.Replies.{answerTo, reply, text}
 use Rattle.desk_line.specs.Pieces.{begun, step, after, written}
-use Rattle.prime.proofs.Choice.{by-eq}
-use Rattle.desk_line.proofs.Readings.{length-hex}
+use Rattle.desk_line.proofs.Numbers.{number-length}
 
 pub after-append : (d : Desk) (a b : List ℕ) → after d (a ++ b) ≡ after (after d a) b
 unfolding after
@@ -26,8 +30,8 @@ written-append d (x ∷ a) b = rw (written-append (step d x) a b, append-assoc)
 
 pub text-length : (a : Answer) → length (text a) ≤ 17
 unfolding text
-text-length (Word w) = omega (arith, length-append (hex 16 w) (10 ∷ []), length-hex 16 w)
-text-length (Refused r) = omega arith
+text-length (Word w) = omega (arith, length-append (hex 16 w) (10 ∷ []), length-digits 16 16 w)
+text-length (Refused r) = omega (arith, length-append (decimal (number r)) (10 ∷ []), number-length r)
 
 -- what a single byte is answered by
 byte-length : (d : Desk) (b : ℕ) → length (cond (eqb b 10) (reply (begun d)) []) ≤ 17

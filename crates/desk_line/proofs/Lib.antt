@@ -1,5 +1,5 @@
 -- Laws of the definitions. Those above cite Theorems, and Counts in proofs of their own; the rest serves the proofs here.
-pub mod Readings
+pub mod Numbers
 pub mod Cutting
 pub mod Shapes
 pub mod Parts

@@ -10,10 +10,10 @@ use borrow.Author.Tests.{ne-eqb}
 use lib.Dec.{eqb, ltb}
 use lib.ListN.{length, take, set, length-append, length-set}
 use lib.Seq.{length-take-le, take-all, take-append-le, take-suc-set}
+use Rattle.prime.proofs.Choice.{by-lt}
 use Rattle.desk_line.specs.declared.desk.Desk.{Desk}
 use Rattle.desk_line.specs.Replies.{answerTo, reply, repliesFrom}
 use Rattle.desk_line.specs.Pieces.{fresh, begun, step, after, written, last, spoken}
-use Rattle.prime.proofs.Choice.{by-lt}
 use Rattle.desk_line.proofs.Cutting.{after-append, written-append}
 use Rattle.desk_line.proofs.Shapes.{unreadable-long}
 

@@ -10,9 +10,12 @@ use Rattle.answers.specs.declared.replies.Answer.{Answer}
 use Rattle.answers.specs.declared.replies.Answer.the-variants.{Word, Refused}
 use Rattle.answers.specs.declared.refusals.Refusal.{Refusal}
 use Rattle.answers.specs.declared.refusals.Refusal.the-variants.{Unreadable}
-use Rattle.desk_line.specs.Replies.{same, made, spaced, wordAt, ofTwo, ofOne, two, one}
+use Rattle.text.specs.Names.{same}
+use Rattle.text.specs.Digits.{made}
+use Rattle.text.proofs.NameLaws.{same-append}
+use Rattle.text.proofs.DigitLaws.{length-digits}
+use Rattle.desk_line.specs.Replies.{spaced, wordAt, ofTwo, ofOne, two, one}
 use Rattle.desk_line.specs.Promises.{readWord}
-use Rattle.desk_line.proofs.Readings.{same-append, length-hex}
 
 module _ (bytes : List ℕ) {r : Answer} (e : r ≡ readWord bytes) where
   -- a word was read: it stands there
@@ -46,7 +49,7 @@ module _ (name rest : List ℕ) {r : Answer} (e : r ≡ readWord rest) where
 
 first-word : (rest : List ℕ) → wordAt 0 (take 17 rest) ≡ wordAt 0 rest
 first-word [] = refl
-first-word (b ∷ rest) = ap (made 0) (take-take 16 16 rest (omega arith))
+first-word (b ∷ rest) = ap (made 16 0) (take-take 16 16 rest (omega arith))
 
 -- the test of two words is that of each
 both : (rest : List ℕ) → length rest ≡ 34
@@ -57,7 +60,7 @@ both rest h =
     let y = wordAt 17 rest in
     let l : take 17 (drop 17 rest) ≡ drop 17 rest = take-all 17 (drop 17 rest) (omega (arith, length-drop 17 rest)) in
     same-append rest (spaced x) (spaced y)
-    ∙ ap (λ (n : ℕ). cond (same (take n rest) (spaced x)) (same (drop n rest) (spaced y)) false) (ap suc (length-hex 16 x))
+    ∙ ap (λ (n : ℕ). cond (same (take n rest) (spaced x)) (same (drop n rest) (spaced y)) false) (ap suc (length-digits 16 16 x))
     ∙ rw (first-word rest, l, drop-drop 1 17 rest) refl
 
 second-word : (rest : List ℕ) → wordAt 0 (take 17 (drop 17 rest)) ≡ wordAt 17 rest

@@ -2,25 +2,29 @@
 -- A word on a line is read back, and a line with a rule's words behind its name is one of the seven of specs/Grammar.antt.
 use mathlib.Core.Path.{_≡_, refl, sym, ap, subst, _∙_}
 use mathlib.Core.List.{List, [], _∷_, _++_, append-nil}
-use Prim.Native.Nat.{ℕ, suc, _^_, _<_}
+use Prim.Native.Nat.{ℕ, suc, _%_, _^_, _<_}
+use native.Mathlib.Nat.{mod-eq-of-lt}
 use native.Mathlib.Omega.{arith}
 use lib.ListN.{length, take, drop, length-append, length-drop, take-append-drop}
 use lib.Seq.{append-snoc, take-at, drop-at}
+use Rattle.prime.proofs.Choice.{by-test}
 use Rattle.answers.specs.declared.replies.Answer.{Answer}
 use Rattle.answers.specs.declared.replies.Answer.the-variants.{Refused}
 use Rattle.answers.specs.declared.refusals.Refusal.the-variants.{Unreadable}
-use Rattle.desk_line.specs.Replies.{same, hex, made, spaced, wordAt, mayRefuse, ofOne, ofTwo, one, two, answerTo, add, sub, mul, neg, half, inv, root}
+use Rattle.text.specs.Names.{same}
+use Rattle.text.specs.Digits.{hex, made}
+use Rattle.text.proofs.NameLaws.{same-refl, same-true, same-length}
+use Rattle.text.proofs.DigitLaws.{length-digits, made-digits}
+use Rattle.desk_line.specs.Replies.{spaced, wordAt, mayRefuse, ofOne, ofTwo, one, two, answerTo, add, sub, mul, neg, half, inv, root}
 use Rattle.desk_line.specs.Grammar.{Line, adds, subs, muls, negs, halves, invs, roots}
-use Rattle.prime.proofs.Choice.{by-test}
-use Rattle.desk_line.proofs.Readings.{same-refl, same-true, same-length, length-hex, made-hex, made-hex-below}
 
 -- ---- a line of another length
 
 length-two : (x y : ℕ) → length (spaced x ++ spaced y) ≡ 34
-length-two x y = omega (arith, length-append (hex 16 x) (spaced y), length-hex 16 x, length-hex 16 y)
+length-two x y = omega (arith, length-append (hex 16 x) (spaced y), length-digits 16 16 x, length-digits 16 16 y)
 
 length-one : (x : ℕ) → length (spaced x) ≡ 17
-length-one x = omega (arith, length-hex 16 x)
+length-one x = omega (arith, length-digits 16 16 x)
 
 pub two-other : (name rest : List ℕ) (other : Answer) → (length rest ≡ 34 → ⊥) → two name rest other ≡ other
 unfolding two
@@ -73,27 +77,28 @@ module _ (line : List ℕ) where
 -- ---- the words on a line
 
 -- the digits that stand behind the first i bytes and a space
-digits-after : (front rest : List ℕ) (i x : ℕ) → length front ≡ i → wordAt i (front ++ (spaced x ++ rest)) ≡ made 0 (hex 16 x)
+digits-after : (front rest : List ℕ) (i x : ℕ) → length front ≡ i → wordAt i (front ++ (spaced x ++ rest)) ≡ x % 2 ^ 64
 digits-after front rest i x e =
-    ap (λ (l : List ℕ). made 0 (take 16 (drop (suc i) l))) (sym (append-snoc front 32 (hex 16 x ++ rest)))
-    ∙ ap (λ (l : List ℕ). made 0 (take 16 l)) (drop-at (front ++ (32 ∷ [])) (hex 16 x ++ rest) (suc i) (omega (arith, length-append front (32 ∷ []))))
-    ∙ ap (made 0) (take-at (hex 16 x) rest 16 (length-hex 16 x))
+    ap (λ (l : List ℕ). made 16 0 (take 16 (drop (suc i) l))) (sym (append-snoc front 32 (hex 16 x ++ rest)))
+    ∙ ap (λ (l : List ℕ). made 16 0 (take 16 l)) (drop-at (front ++ (32 ∷ [])) (hex 16 x ++ rest) (suc i) (omega (arith, length-append front (32 ∷ []))))
+    ∙ ap (made 16 0) (take-at (hex 16 x) rest 16 (length-digits 16 16 x))
+    ∙ made-digits 16 (omega arith) (omega arith) 16 x
 
 -- those at the end
-last-digits : (front : List ℕ) (i x : ℕ) → length front ≡ i → wordAt i (front ++ spaced x) ≡ made 0 (hex 16 x)
+last-digits : (front : List ℕ) (i x : ℕ) → length front ≡ i → wordAt i (front ++ spaced x) ≡ x % 2 ^ 64
 last-digits front i x e = rw (append-nil (spaced x)) at (digits-after front [] i x e)
 
 pub two-reads : (name : List ℕ) (other : Answer) (x y : ℕ) → x < 2 ^ 64 → y < 2 ^ 64 → two name (spaced x ++ spaced y) other ≡ ofTwo name x y
 unfolding two
 two-reads name other x y h i =
     let rest = spaced x ++ spaced y in
-    let p : wordAt 0 rest ≡ x = digits-after [] (spaced y) 0 x refl ∙ made-hex 16 x h in
-    let q : wordAt 17 rest ≡ y = last-digits (spaced x) 17 y (length-one x) ∙ made-hex 16 y i in
+    let p : wordAt 0 rest ≡ x = digits-after [] (spaced y) 0 x refl ∙ mod-eq-of-lt h in
+    let q : wordAt 17 rest ≡ y = last-digits (spaced x) 17 y (length-one x) ∙ mod-eq-of-lt i in
     rw (p, q, same-refl rest)
 
 pub one-reads : (name : List ℕ) (other : Answer) (x : ℕ) → x < 2 ^ 64 → one name (spaced x) other ≡ ofOne name x
 unfolding one
-one-reads name other x h = rw (last-digits [] 0 x refl, made-hex 16 x h, same-refl (spaced x))
+one-reads name other x h = rw (last-digits [] 0 x refl, mod-eq-of-lt h, same-refl (spaced x))
 
 -- ---- a line that is not unreadable
 
@@ -136,7 +141,7 @@ module _ (n : ℕ) (line : List ℕ) {other : Answer} (f : Reads line other) whe
       let q = ap (wordAt 17) e ∙ last-digits (spaced x) 17 y (length-one x) in
       let s : name ++ (spaced x ++ spaced y) ≡ line = ap (λ (l : List ℕ). name ++ l) (sym e) ∙ take-append-drop n line in
       subst (λ (l : List ℕ). Reads l (ofTwo name x y)) s
-      (two-name name x y (omega (arith, p, made-hex-below 16 x)) (omega (arith, q, made-hex-below 16 y))))
+      (two-name name x y (omega (arith, p)) (omega (arith, q))))
       (λ t. f)
 
   pub line-of-one : Reads line (one (take n line) (drop n line) other)
@@ -150,5 +155,5 @@ module _ (n : ℕ) (line : List ℕ) {other : Answer} (f : Reads line other) whe
       let e = same-true rest (spaced x) t in
       let p = ap (wordAt 0) e ∙ last-digits [] 0 x refl in
       let s : name ++ spaced x ≡ line = ap (λ (l : List ℕ). name ++ l) (sym e) ∙ take-append-drop n line in
-      subst (λ (l : List ℕ). Reads l (ofOne name x)) s (one-name name x (omega (arith, p, made-hex-below 16 x))))
+      subst (λ (l : List ℕ). Reads l (ofOne name x)) s (one-name name x (omega (arith, p))))
       (λ t. f)

@@ -11,10 +11,11 @@ use Rattle.answers.specs.declared.replies.Answer.the-variants.{Word, Refused}
 use Rattle.answers.specs.declared.refusals.Refusal.the-variants.{InverseOfZero, NoSquareRoot, Unreadable}
 use Rattle.words.specs.Words.{addWord, subWord, mulWord, negWord, halveWord}
 use Rattle.roots.specs.Roots.{inverseWord, isSquare, rootWord}
-use Rattle.desk_line.specs.Replies.{same, spaced, ofTwo, mayRefuse, ofOne, add, sub, mul, neg, half, inv, root, answerTo, repliesFrom, replies}
+use Rattle.text.specs.Names.{same}
+use Rattle.text.proofs.DigitLaws.{length-digits}
+use Rattle.desk_line.specs.Replies.{spaced, ofTwo, mayRefuse, ofOne, add, sub, mul, neg, half, inv, root, answerTo, repliesFrom, replies}
 use Rattle.desk_line.specs.Grammar.{Line}
 use Rattle.desk_line.specs.Pieces.{fresh, spoken}
-use Rattle.desk_line.proofs.Readings.{length-hex}
 use Rattle.desk_line.proofs.Shapes.{unreadable, unreadable-long, of-20, of-21, two-reads, one-reads, line-of-two, line-of-one}
 use Rattle.desk_line.proofs.OpenLine.{keeps-fresh, spoken-kept}
 
@@ -59,22 +60,22 @@ module _ (x : ℕ) (h : x < 2 ^ 64) where
   -- `neg` answers the word of the negative.
   pub neg-line : answerTo (neg ++ spaced x) ≡ Word (negWord x)
   unfolding ofOne same
-  neg-line = sym (of-20 (neg ++ spaced x) (omega (arith, length-hex 16 x))) ∙ one-reads neg _ x h
+  neg-line = sym (of-20 (neg ++ spaced x) (omega (arith, length-digits 16 16 x))) ∙ one-reads neg _ x h
 
   -- `half` answers that of the half.
   pub half-line : answerTo (half ++ spaced x) ≡ Word (halveWord x)
   unfolding ofOne same
-  half-line = sym (of-21 (half ++ spaced x) (omega (arith, length-hex 16 x))) ∙ one-reads half _ x h
+  half-line = sym (of-21 (half ++ spaced x) (omega (arith, length-digits 16 16 x))) ∙ one-reads half _ x h
 
   -- `inv` answers that of the inverse, and zero has none.
   pub inv-line : answerTo (inv ++ spaced x) ≡ cond (eqb (x % P) 0) (Refused InverseOfZero) (Word (inverseWord x))
   unfolding ofOne mayRefuse same
-  inv-line = sym (of-20 (inv ++ spaced x) (omega (arith, length-hex 16 x))) ∙ one-reads inv _ x h
+  inv-line = sym (of-20 (inv ++ spaced x) (omega (arith, length-digits 16 16 x))) ∙ one-reads inv _ x h
 
   -- `root` answers that of the root, where there is one.
   pub root-line : answerTo (root ++ spaced x) ≡ cond (isSquare x) (Word (rootWord x)) (Refused NoSquareRoot)
   unfolding ofOne mayRefuse same
-  root-line = sym (of-21 (root ++ spaced x) (omega (arith, length-hex 16 x))) ∙ one-reads root _ x h
+  root-line = sym (of-21 (root ++ spaced x) (omega (arith, length-digits 16 16 x))) ∙ one-reads root _ x h
 
 -- 01: "Anything else .. gives `refused 8`": a line that is answered otherwise is one of the seven.
 pub readable : {line : List ℕ} → (answerTo line ≡ Refused Unreadable → ⊥) → Line line

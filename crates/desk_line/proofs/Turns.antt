@@ -1,96 +1,67 @@
--- One turn of each loop that reads or writes digits or compares.
+-- One turn of the loop that reads digits, and the space before them.
 use mathlib.Core.Path.{_≡_, refl, sym, ap, ap₂, _∙_}
-use mathlib.Core.Bool.{Bool, true, false, cond}
-use mathlib.Core.List.{List, [], _∷_, _++_, append-assoc}
-use Prim.Native.Nat.{ℕ, suc, _+_, _-_, _*_, _/_, _%_, _^_, _<_, _≤_}
-use native.Mathlib.Nat.{pow-le-pow-right}
+use mathlib.Core.Bool.{Bool, true, false}
+use mathlib.Core.List.{List, [], _∷_, _++_}
+use Prim.Native.Nat.{ℕ, _+_, _*_, _^_, _<_}
+use native.Mathlib.Nat.{mod-eq-of-lt, pow-le-pow-right}
 use native.Mathlib.Numerals.{add-one}
 use native.Mathlib.Omega.{arith}
 use borrow.Author.Tests.{eq-eqb, ne-eqb}
-use lib.Dec.{eqb}
-use lib.ListN.{length, getD, take, drop, set, length-set, drop-of-length-le}
-use lib.Seq.{drop-cons, take-suc, take-all, drop-set-lt, getD-set-same}
+use lib.ListN.{length, getD, take, drop}
+use lib.Seq.{take-suc, take-all}
 use Rattle.answers.specs.declared.replies.Answer.{Answer}
 use Rattle.answers.specs.declared.replies.Answer.the-variants.{Word, Refused}
 use Rattle.answers.specs.declared.refusals.Refusal.the-variants.{Unreadable}
-use Rattle.desk_line.specs.Replies.{same, glyph, hex, made}
+use Rattle.text.specs.Names.{same}
+use Rattle.text.specs.Digits.{glyph, digit, digits, hex, made}
+use Rattle.text.proofs.NameLaws.{same-refl, same-true}
+use Rattle.text.proofs.DigitLaws.{glyph-digit, digits-below, made-digits}
 use Rattle.desk_line.specs.Promises.{readDigits, readWord}
-use Rattle.desk_line.proofs.Readings.{same-refl, same-true, glyph-below, made-hex}
 
--- comparing: up to i the bytes are the same, so that the rests decide
-pub record Alike (i : ℕ) (xs ys : List ℕ) : Type 0 where
-  pub within : i ≤ length xs
-  pub rests : same xs ys ≡ same (drop i xs) (drop i ys)
-
-pub alike-none : (xs ys : List ℕ) → Alike 0 xs ys
-alike-none xs ys = record { within = omega arith; rests = refl }
-
-next : (i : ℕ) (xs ys : List ℕ) → i < length xs → i < length ys
-    → same (drop i xs) (drop i ys) ≡ cond (eqb (getD xs i 0) (getD ys i 0)) (same (drop (i + 1) xs) (drop (i + 1) ys)) false
-unfolding same
-next i xs ys h k = rw (add-one i, drop-cons xs i 0 h, drop-cons ys i 0 k) refl
-
-module _ {i : ℕ} {xs ys : List ℕ} where
-  pub alike-next : i < length xs → i < length ys → getD xs i 0 ≡ getD ys i 0 → Alike i xs ys → Alike (i + 1) xs ys
-  alike-next h k e a = record { within = omega arith; rests = a .rests ∙ next i xs ys h k ∙ rw (eq-eqb _ _ e) refl }
-
-  pub alike-not : i < length xs → i < length ys → (getD xs i 0 ≡ getD ys i 0 → ⊥) → Alike i xs ys → false ≡ same xs ys
-  alike-not h k e a = sym (a .rests ∙ next i xs ys h k ∙ rw (ne-eqb _ _ e) refl)
-
-  pub alike-all : length xs ≤ i → length ys ≤ i → Alike i xs ys → true ≡ same xs ys
-  unfolding same
-  alike-all h k a = sym (a .rests ∙ rw (drop-of-length-le xs h, drop-of-length-le ys k) refl)
-
--- reading: the word so far is written by the first i digits
-pub record Read (i word : ℕ) (digits : List ℕ) : Type 0 where
-  pub writes : hex i word ≡ take i digits
+-- the word so far is written by the first i bytes
+pub record Read (i word : ℕ) (bytes : List ℕ) : Type 0 where
+  pub writes : hex i word ≡ take i bytes
   pub small : word < 16 ^ i
 
-pub read-none : (digits : List ℕ) → Read 0 0 digits
-unfolding hex
-read-none digits = record { writes = refl; small = omega arith }
+pub read-none : (bytes : List ℕ) → Read 0 0 bytes
+unfolding digits
+read-none bytes = record { writes = refl; small = omega arith }
 
-pub read-next : {i word : ℕ} (digits : List ℕ) (d : ℕ) → i < length digits → d < 16 → getD digits i 0 ≡ glyph d → Read i word digits
-    → Read (i + 1) (word * 16 + d) digits
-unfolding hex
-read-next {i} {word} digits d h b e r =
+pub read-next : {i word d : ℕ} (bytes : List ℕ) → i < length bytes → d ≡ digit (getD bytes i 0) → d < 16 → Read i word bytes
+    → Read (i + 1) (word * 16 + d) bytes
+unfolding digits
+read-next {i} {word} {d} bytes h e l r =
+    let g : glyph d ≡ getD bytes i 0 = ap glyph e ∙ sym (glyph-digit (getD bytes i 0) (omega arith)) in
     rw (add-one i)
     (record {
       writes =
           ap₂ (λ (n m : ℕ). hex i n ++ (glyph m ∷ [])) (omega arith) (omega arith)
-          ∙ ap₂ (λ (l : List ℕ) (g : ℕ). l ++ (g ∷ [])) (r .writes) (sym e)
-          ∙ sym (take-suc digits i 0 h);
+          ∙ ap₂ (λ (t : List ℕ) (b : ℕ). t ++ (b ∷ [])) (r .writes) g
+          ∙ sym (take-suc bytes i 0 h);
       small = omega (arith, r .small);
     })
 
-pub read-room : {i word : ℕ} {digits : List ℕ} → i < 16 → Read i word digits → word < 2 ^ 60
+pub read-room : {i word : ℕ} {bytes : List ℕ} → i < 16 → Read i word bytes → word < 2 ^ 60
 read-room {i} h r = omega (arith, r .small, pow-le-pow-right {n = 16} (omega arith) {i = i} {j = 15} (omega arith))
 
-pub read-all : (digits : List ℕ) {i word : ℕ} → i ≡ 16 → length digits ≡ 16 → Read i word digits → Word word ≡ readDigits digits
-read-all digits {word = word} n l q =
-    let r : Read 16 word digits = rw n at q in
-    let e : hex 16 word ≡ digits = r .writes ∙ take-all 16 digits (omega arith) in
-    let m : made 0 digits ≡ word = ap (made 0) (sym e) ∙ made-hex 16 word (r .small) in
-    rw (m, e, same-refl digits) refl
+pub read-all : (bytes : List ℕ) {i word : ℕ} → i ≡ 16 → length bytes ≡ 16 → Read i word bytes → Word word ≡ readDigits bytes
+read-all bytes {word = word} n l q =
+    let r : Read 16 word bytes = rw n at q in
+    let e : hex 16 word ≡ bytes = r .writes ∙ take-all 16 bytes (omega arith) in
+    let m : made 16 0 bytes ≡ word = ap (made 16 0) (sym e) ∙ made-digits 16 (omega arith) (omega arith) 16 word ∙ mod-eq-of-lt (r .small) in
+    rw (m, e, same-refl bytes) refl
 
 refuted : (t : Bool) → (t ≡ true → ⊥) → t ≡ false
 refuted true h = absurd (h refl)
 refuted false h = refl
 
-pub read-none-of : (digits : List ℕ) (i : ℕ) → i < 16 → ((d : ℕ) → d < 16 → getD digits i 0 ≡ glyph d → ⊥) → Refused Unreadable ≡ readDigits digits
-read-none-of digits i h n =
-    rw (refuted (same digits (hex 16 (made 0 digits))) (λ e. let g = glyph-below 16 (made 0 digits) i h in
-    n (g .0) (g .1) (ap (λ (l : List ℕ). getD l i 0) (same-true digits (hex 16 (made 0 digits)) e) ∙ g .2))) refl
-
--- writing: the digits still to be written, and those that stand behind them, make them all
-pub spell-next : (i rest : ℕ) (text : List ℕ) {n : ℕ} {goal : List ℕ} {g : ℕ} → n ≡ suc i → n < length text → g ≡ glyph (rest % 16)
-    → hex n rest ++ drop n text ≡ goal → hex i (rest / 16) ++ drop i (set text i g) ≡ goal
-unfolding hex
-spell-next i rest text {g = g} s l e f =
-    ap (λ (m : List ℕ). hex i (rest / 16) ++ m) (drop-cons (set text i g) i 0 (omega (arith, length-set text i g)))
-    ∙ ap₂ (λ (n : ℕ) (m : List ℕ). hex i (rest / 16) ++ (n ∷ m)) (getD-set-same text i g 0 (omega arith) ∙ e) (drop-set-lt (suc i) text i g (omega arith))
-    ∙ sym (append-assoc (hex i (rest / 16)) (glyph (rest % 16) ∷ []) (drop (suc i) text))
-    ∙ (rw s at f)
+pub read-none-of : (bytes : List ℕ) {i d : ℕ} → i < 16 → d ≡ digit (getD bytes i 0) → 15 < d → Refused Unreadable ≡ readDigits bytes
+read-none-of bytes {i} h e l =
+    let word = made 16 0 bytes in
+    rw (refuted (same bytes (hex 16 word)) (λ t.
+    let p = digits-below 16 (omega arith) (omega arith) 16 word i h in
+    let q = ap (λ (b : List ℕ). digit (getD b i 0)) (same-true bytes (hex 16 word) t) in
+    omega arith)) refl
 
 -- a word: a space before its digits
 pub no-space : (bytes : List ℕ) → 0 < length bytes → (getD bytes 0 0 ≡ 32 → ⊥) → Refused Unreadable ≡ readWord bytes

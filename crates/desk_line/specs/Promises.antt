@@ -7,15 +7,17 @@ use lib.ListN.{length, take, drop, replicate}
 use Rattle.answers.specs.declared.replies.Answer.{Answer}
 use Rattle.answers.specs.declared.replies.Answer.the-variants.{Word, Refused}
 use Rattle.answers.specs.declared.refusals.Refusal.the-variants.{Unreadable}
+use Rattle.text.specs.Names.{same}
+use Rattle.text.specs.Digits.{hex, made}
 use Rattle.desk_line.specs.declared.desk.Desk.{Desk}
 use Rattle.desk_line.specs.declared.desk.Fed.{Fed}
 use Rattle.desk_line.specs.declared.replies.Reply.{Reply}
-use Rattle.desk_line.specs.Replies.{same, hex, made, spaced, wordAt}
+use Rattle.desk_line.specs.Replies.{spaced, wordAt}
 use Rattle.desk_line.specs.Pieces.{after, written}
 
 -- What 16 bytes are read as: the word that they write in digits, if they do.
 abbrev pub readDigits : List ℕ → Answer
-readDigits bytes = cond (same bytes (hex 16 (made 0 bytes))) (Word (made 0 bytes)) (Refused Unreadable)
+readDigits bytes = cond (same bytes (hex 16 (made 16 0 bytes))) (Word (made 16 0 bytes)) (Refused Unreadable)
 
 -- What 17 bytes are read as: the word that they write, if they do, with a space before it.
 abbrev pub readWord : List ℕ → Answer

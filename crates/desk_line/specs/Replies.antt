@@ -1,8 +1,8 @@
 -- 01, "The desk tool", whole and in one place: the bytes that answer any bytes.
-use mathlib.Core.Bool.{Bool, true, false, cond}
+use mathlib.Core.Bool.{cond}
 use mathlib.Core.List.{List, [], _∷_, _++_}
-use Prim.Native.Nat.{ℕ, zero, suc, _+_, _-_, _*_, _/_, _%_}
-use lib.Dec.{eqb, ltb}
+use Prim.Native.Nat.{ℕ, suc, _%_}
+use lib.Dec.{eqb}
 use lib.ListN.{take, drop}
 use Rattle.prime.specs.Modulus.{P}
 use Rattle.answers.specs.declared.replies.Answer.{Answer}
@@ -11,31 +11,9 @@ use Rattle.answers.specs.declared.refusals.Refusal.the-variants.{InverseOfZero,
 use Rattle.answers.specs.Answers.{number}
 use Rattle.words.specs.Words.{addWord, subWord, mulWord, negWord, halveWord}
 use Rattle.roots.specs.Roots.{inverseWord, isSquare, rootWord}
-
--- Whether two lists of bytes are the same.
-unfoldable pub same : List ℕ → List ℕ → Bool
-same [] [] = true
-same [] (y ∷ ys) = false
-same (x ∷ xs) [] = false
-same (x ∷ xs) (y ∷ ys) = cond (eqb x y) (same xs ys) false
-
--- The byte of an "uppercase hex digit": `0` to `9`, then `A` to `F`.
-unfoldable pub glyph : ℕ → ℕ
-glyph d = cond (ltb d 10) (48 + d) (55 + d)
-
--- The digit that such a byte writes.
-unfoldable pub digit : ℕ → ℕ
-digit b = cond (ltb b 65) (b - 48) (b - 55)
-
--- The last k digits of n, the highest in front.
-unfoldable pub hex : ℕ → ℕ → List ℕ
-hex zero n = []
-hex (suc k) n = hex k (n / 16) ++ (glyph (n % 16) ∷ [])
-
--- The number that digits make, with n in front of them.
-unfoldable pub made : ℕ → List ℕ → ℕ
-made n [] = n
-made n (b ∷ bs) = made (n * 16 + digit b) bs
+use Rattle.text.specs.Names.{same}
+use Rattle.text.specs.Digits.{hex, made}
+use Rattle.text.specs.Decimals.{decimal}
 
 -- A word on a line: "one space before each word, each word 16 uppercase hex digits".
 abbrev pub spaced : ℕ → List ℕ
@@ -43,7 +21,7 @@ spaced x = 32 ∷ hex 16 x
 
 -- The number that 16 digits make after a space at the place i.
 abbrev pub wordAt : ℕ → List ℕ → ℕ
-wordAt i bytes = made 0 (take 16 (drop (suc i) bytes))
+wordAt i bytes = made 16 0 (take 16 (drop (suc i) bytes))
 
 -- `add`.
 abbrev pub add : List ℕ
@@ -111,10 +89,14 @@ answerTo line =
     (one (take 4 line) (drop 4 line)
     (Refused Unreadable)))
 
+-- The line "`refused N`", "ended by byte 10".
+abbrev pub refusedLine : ℕ → List ℕ
+refusedLine n = 114 ∷ 101 ∷ 102 ∷ 117 ∷ 115 ∷ 101 ∷ 100 ∷ 32 ∷ (decimal n ++ (10 ∷ []))
+
 -- An answer as a line: "the held word so written, or `refused N`", "ended by byte 10".
 unfoldable pub text : Answer → List ℕ
 text (Word w) = hex 16 w ++ (10 ∷ [])
-text (Refused r) = 114 ∷ 101 ∷ 102 ∷ 117 ∷ 115 ∷ 101 ∷ 100 ∷ 32 ∷ (48 + number r) ∷ 10 ∷ []
+text (Refused r) = refusedLine (number r)
 
 -- The reply to a line.
 abbrev pub reply : List ℕ → List ℕ

@@ -1,19 +1,17 @@
 // An input that comes in pieces. What is kept between two of them goes by value: the start of the line that is still open.
 ghost use mathlib.Core.Path.{_≡_};
-ghost use Prim.Native.Nat.{_+_, _≤_, min};
+ghost use Prim.Native.Nat.{min};
 ghost use lib.ListN.{length, take};
-ghost use lib.Seq.{paste};
 ghost use Rattle.desk_line.specs.Replies.{reply};
 ghost use Rattle.desk_line.specs.Pieces.{fresh, last};
 ghost use Rattle.desk_line.specs.Promises.{Says, Feeds};
 use super::lines::answer;
+use super::replies::LINE_END;
 use super::replies::LONGEST;
 use super::replies::Reply;
+use super::replies::put;
 use super::replies::silence;
 use super::replies::spell;
-
-// The byte that ends a line.
-const LINE_END: u8 = 10;
 
 // The first 64 bytes of the open line, and how many it has, 64 for more. With 64 a line is unreadable whatever follows.
 pub struct Desk {
@@ -41,18 +39,6 @@ fn reply_to(line: &[u8], len: usize) -> Reply
 {
     let end = least(len, 64);
     spell(answer(&line[..end]))
-}
-
-// Puts the first n bytes of a reply's text at a place of out.
-fn put(text: &[u8], n: usize, out: &mut [u8], at: usize)
-    requires { ⌜ (n ≤ length (now text)) × (at + n ≤ length (now out)) ⌝ }
-    ensures { λ r. ⌜ now (out .exit) ≡ paste (now (out .entry)) at (now (text .entry)) n ⌝ }
-{
-    let mut i = 0;
-    while i < n {
-        out[at + i] = text[i];
-        i += 1;
-    }
 }
 
 impl Desk {

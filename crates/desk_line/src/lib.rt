@@ -9,11 +9,6 @@ pub use lines::answer;
 pub use replies::Reply;
 pub use replies::spell;
 
-// What lines are read and written by.
-pub use digits::digit;
-pub use lines::same;
-pub use replies::spell_word;
-
 // An input in pieces: what is kept between them, and what is written for each.
 pub use desk::Desk;
 pub use desk::Fed;

@@ -3,7 +3,7 @@ ghost use mathlib.Core.Path.{_≡_};
 ghost use lib.ListN.{length};
 ghost use Rattle.answers.specs.declared.replies.Answer.the-variants.{Refused};
 ghost use Rattle.answers.specs.declared.refusals.Refusal.the-variants.{Unreadable};
-ghost use Rattle.desk_line.specs.Replies.{ofTwo, mayRefuse, ofOne, two, one, answerTo, same as Replies·same};
+ghost use Rattle.desk_line.specs.Replies.{ofTwo, mayRefuse, ofOne, two, one, answerTo};
 use super::digits::read_word;
 use goldilocks::Answer;
 use goldilocks::Refusal;
@@ -14,23 +14,7 @@ use goldilocks::neg;
 use goldilocks::sub;
 use goldilocks::try_inverse;
 use goldilocks::try_sqrt;
-
-// Whether two lists of bytes are the same.
-pub fn same(a: &[u8], b: &[u8]) -> bool
-    ensures { λ r. ⌜ r ≡ Replies·same (now (a .entry)) (now (b .entry)) ⌝ }
-{
-    if a.len() != b.len() {
-        return false;
-    }
-    let mut i = 0;
-    while i < a.len() {
-        if a[i] != b[i] {
-            return false;
-        }
-        i += 1;
-    }
-    true
-}
+use text::same;
 
 // The operations on two words, by name.
 fn of_two(name: &[u8], x: u64, y: u64) -> Answer

@@ -1,10 +1,17 @@
 // An answer as a line of text.
 ghost use mathlib.Core.Path.{_≡_};
-ghost use mathlib.Core.List.{_∷_, _++_, []};
-ghost use Rattle.desk_line.specs.Replies.{hex, text};
+ghost use mathlib.Core.List.{[]};
+ghost use Prim.Native.Nat.{_+_, _≤_};
+ghost use lib.ListN.{length};
+ghost use lib.Seq.{paste};
+ghost use Rattle.desk_line.specs.Replies.{refusedLine, text};
 ghost use Rattle.desk_line.specs.Promises.{Says};
-use super::digits::glyph;
 use goldilocks::Answer;
+use text::decimal;
+use text::spell_word;
+
+// The byte that ends a line.
+pub(crate) const LINE_END: u8 = 10;
 
 // The longest reply: 16 digits and the line's end.
 pub(crate) const LONGEST: usize = 17;
@@ -25,19 +32,30 @@ pub(crate) fn silence() -> Reply
     }
 }
 
-// The 16 digits of a word and the line's end.
-pub fn spell_word(word: u64) -> [u8; 17]
-    ensures { λ r. ⌜ r ≡ hex 16 word ++ (10 ∷ []) ⌝ }
+// Puts the first n bytes of a text at a place of out.
+pub(crate) fn put(text: &[u8], n: usize, out: &mut [u8], at: usize)
+    requires { ⌜ (n ≤ length (now text)) × (at + n ≤ length (now out)) ⌝ }
+    ensures { λ r. ⌜ now (out .exit) ≡ paste (now (out .entry)) at (now (text .entry)) n ⌝ }
 {
-    let mut text = [10u8; 17];
-    let mut rest = word;
-    let mut i = 16;
-    while 0 < i {
-        i -= 1;
-        text[i] = glyph(rest % 16);
-        rest = rest / 16;
+    let mut i = 0;
+    while i < n {
+        out[at + i] = text[i];
+        i += 1;
     }
-    text
+}
+
+// The line `refused N`: there is room for any number of up to two digits.
+fn refused(number: u64) -> Reply
+    requires { ⌜ number ≤ 99 ⌝ }
+    ensures { λ r. ⌜ Says (refusedLine number) r ⌝ }
+{
+    let mut text = *b"refused \0\0\0\0\0\0\0\0\0";
+    let spelt = decimal(number);
+    let digits = spelt.text;
+    let n = spelt.len;
+    put(&digits, n, &mut text, 8);
+    text[8 + n] = LINE_END;
+    Reply { text, len: 9 + n }
 }
 
 // The word's digits, or `refused` and the refusal's number.
@@ -49,10 +67,6 @@ pub fn spell(answer: Answer) -> Reply
             text: spell_word(word),
             len: 17,
         },
-        Answer::Refused(refusal) => {
-            let mut text = *b"refused N\n\0\0\0\0\0\0\0";
-            text[8] = b'0' + refusal.number() as u8;
-            Reply { text, len: 10 }
-        }
+        Answer::Refused(refusal) => refused(refusal.number()),
     }
 }

@@ -1,6 +1,6 @@
 -- No second result, word or index by reference, or lent buffer fits the contract of an exported function: `X-out` for each operation X, in document 01's
--- order, with all that goes out of a call in front. Where the contract is the operation's own this is the operation's theorem, of Determined.antt of `calls`;
--- where it is `Handed`, what goes out is made of the answer, of which there is one.
+-- order. What `Fixes` reads off a call is all that goes out of it. Where the contract is the operation's own this is the operation's theorem, of
+-- Determined.antt of `calls`; where it is `Handed`, what goes out is made of the operation's answer, and of that there is one.
 use mathlib.Core.Path.{_≡_, sym, ap, ap₂, _∙_}
 use mathlib.Core.List.{List}
 use Prim.Native.Nat.{ℕ}

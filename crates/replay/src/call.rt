@@ -16,7 +16,6 @@ use super::outcome::of_bool;
 use super::outcome::of_coded;
 use super::outcome::of_ordering;
 use super::outcome::of_word;
-use desk_line::same;
 use goldilocks::add;
 use goldilocks::as_canonical_u64;
 use goldilocks::cmp;
@@ -44,6 +43,7 @@ use goldilocks::try_inverse;
 use goldilocks::try_sqrt;
 use goldilocks::two_adic_generator;
 use goldilocks::value;
+use text::same;
 
 // The most words or bytes that a list may have: 8 bytes for each of the most words that the limit of coding is tested with, 4,097, and one more.
 const MOST: u64 = 32777;

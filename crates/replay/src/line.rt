@@ -6,9 +6,9 @@ ghost use Rattle.io.specs.Counts.{Counts};
 ghost use Rattle.replay.specs.Room.{lineBytes};
 use super::outcome::Answered;
 use super::outcome::Outcome;
-use desk_line::digit;
 use goldilocks::Answer;
 use goldilocks::Refusal;
+use text::digit;
 
 // The bytes of a line, the last of them its end.
 pub(crate) const LINE: usize = 113;

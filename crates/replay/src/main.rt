@@ -14,7 +14,6 @@ mod lists;
 mod outcome;
 
 use call::call;
-use desk_line::spell_word;
 use libc::STDIN_FILENO;
 use libc::STDOUT_FILENO;
 use line::Asked;
@@ -27,6 +26,7 @@ use outcome::Answered;
 use outcome::Outcome;
 use outcome::alike;
 use std::num::wrapping_add_u64;
+use text::spell_word;
 
 // The bytes of the piece of the input that is read at a time, 512 lines.
 const PIECE: usize = 512 * LINE;

@@ -5,8 +5,8 @@ ghost use lib.ListN.{length};
 ghost use Rattle.wire.specs.Wire.{elementBytes, numberOf};
 use words::as_canonical_u64;
 
-// The number that a byte makes with those after it, which make `rest`.
-fn join_byte(byte: u8, rest: u64) -> u64
+// The number that a byte makes in front of others, which make `rest`.
+fn lead(byte: u8, rest: u64) -> u64
     requires { ⌜ rest < 2 ^ 56 ⌝ }
     ensures { λ r. ⌜ (r ≡ byte + 256 * rest) × (r < 256 * (rest + 1)) ⌝ }
 {
@@ -18,14 +18,8 @@ pub(crate) fn read_element(bytes: &[u8]) -> u64
     requires { ⌜ length (now bytes) ≡ 8 ⌝ }
     ensures { λ r. ⌜ r ≡ numberOf (now (bytes .entry)) ⌝ }
 {
-    let hi = join_byte(
-        bytes[4],
-        join_byte(bytes[5], join_byte(bytes[6], join_byte(bytes[7], 0))),
-    );
-    join_byte(
-        bytes[0],
-        join_byte(bytes[1], join_byte(bytes[2], join_byte(bytes[3], hi))),
-    )
+    let hi = lead(bytes[4], lead(bytes[5], lead(bytes[6], lead(bytes[7], 0))));
+    lead(bytes[0], lead(bytes[1], lead(bytes[2], lead(bytes[3], hi))))
 }
 
 // The 8 bytes of x.

@@ -1,4 +1,4 @@
--- The functions of c_shifts.rt, in document 01's order.
+-- Each function of c_shifts.rt promises what its operation promises and asks nothing of its caller: the two contracts compute to the same.
 use mathlib.Core.Path.{refl}
 use Rattle.goldilocks.proofs as operation
 use Rattle.lichenfrock.specs.Same.{Same}

@@ -1,4 +1,4 @@
--- The functions of c_words.rt, in document 01's order.
+-- Each function of c_words.rt promises what its operation promises and asks nothing of its caller: the two contracts compute to the same.
 use mathlib.Core.Path.{refl}
 use denote.Ref.{now}
 use Rattle.goldilocks.proofs as operation

@@ -1,4 +1,4 @@
--- The loop's invariant: the word so far is written by the first i digits.
+-- The loop's invariant: the word so far is written by the first i bytes.
 use Prim.Native.Nat.{_-_, _≤_}
 use native.Mathlib.Omega.{arith}
 use borrow.Author.Needs.{needs}
@@ -13,7 +13,7 @@ abbrev μ-loop : tie.MeasureT-loop
 μ-loop digits word₀ i₀ word i = 16 - i
 
 returns : tie.Need-returns Inv-loop μ-loop
-returns c = read-none-of _ _ (search needs) (c .before .digit .ensures .1 (search needs))
+returns c = read-none-of _ (search needs) (c .before .digit .ensures) (search needs)
 
 mul-word : tie.Need-mul-word Inv-loop μ-loop
 mul-word c = omega (arith, read-room (search needs) (c .before .before .before .before .loop .inv .1))
@@ -24,7 +24,7 @@ add-word c = omega (arith, read-room (search needs) (c .before .before .before .
 loop-again : tie.Need-loop-again Inv-loop μ-loop
 loop-again c = (
   omega arith,
-  read-next _ _ (search needs) (search needs) (c .before .digit .ensures .0 (search needs)) (c .before .before .before .before .loop .inv .1),
+  read-next _ (search needs) (c .before .digit .ensures) (search needs) (c .before .before .before .before .loop .inv .1),
 )
 
 returns-2 : tie.Need-returns-2 Inv-loop μ-loop

@@ -16,12 +16,12 @@ read-element-spec =
     let hi = c .before .before .before .before .before .before .before .before in
     number-read 8 _ (search needs)
     (rw (
-      c .join-byte8 .ensures .0,
-      c .before .join-byte7 .ensures .0,
-      c .before .before .join-byte6 .ensures .0,
-      c .before .before .before .join-byte5 .ensures .0,
-      hi .join-byte4 .ensures .0,
-      hi .before .join-byte3 .ensures .0,
-      hi .before .before .join-byte2 .ensures .0,
-      hi .before .before .before .join-byte .ensures .0,
+      c .lead8 .ensures .0,
+      c .before .lead7 .ensures .0,
+      c .before .before .lead6 .ensures .0,
+      c .before .before .before .lead5 .ensures .0,
+      hi .lead4 .ensures .0,
+      hi .before .lead3 .ensures .0,
+      hi .before .before .lead2 .ensures .0,
+      hi .before .before .before .lead .ensures .0,
     ))))

@@ -3,10 +3,10 @@ use mathlib.Core.Path.{sym}
 use Prim.Native.Nat.{_-_}
 use borrow.Author.Needs.{needs}
 use lib.ListN.{length}
-use Rattle.desk_line.proofs.Readings.{same-length}
-use Rattle.desk_line.proofs.Turns.{Alike, alike-none, alike-next, alike-not, alike-all}
-use Rattle.desk_line.proofs.lines.same.Statement.{statement}
-use Rattle.desk_line.proofs.lines.same.Tie as tie
+use Rattle.text.proofs.NameLaws.{same-length}
+use Rattle.text.proofs.Turns.{Alike, alike-none, alike-next, alike-not, alike-all}
+use Rattle.text.proofs.names.same.Statement.{statement}
+use Rattle.text.proofs.names.same.Tie as tie
 
 abbrev Inv-loop : tie.InvT-loop
 Inv-loop a b i₀ i = Alike i a b

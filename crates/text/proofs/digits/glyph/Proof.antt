@@ -1,9 +1,9 @@
 -- The two ranges of digits.
 use borrow.Author.Needs.{needs}
 use borrow.Author.Tests.{lt-ltb, le-ltb}
-use Rattle.desk_line.specs.Replies.{glyph}
-use Rattle.desk_line.proofs.digits.glyph.Statement.{statement}
-use Rattle.desk_line.proofs.digits.glyph.Tie as tie
+use Rattle.text.specs.Digits.{glyph}
+use Rattle.text.proofs.digits.glyph.Statement.{statement}
+use Rattle.text.proofs.digits.glyph.Tie as tie
 
 returns : tie.Need-returns
 unfolding glyph

@@ -7,8 +7,8 @@ use native.Mathlib.Omega.{arith}
 use borrow.Author.Needs.{needs}
 use lib.ListN.{length, getD, set, length-set}
 use lib.Seq.{paste, paste-zero, paste-suc}
-use Rattle.desk_line.proofs.desk.put.Statement.{statement}
-use Rattle.desk_line.proofs.desk.put.Tie as tie
+use Rattle.desk_line.proofs.replies.put.Statement.{statement}
+use Rattle.desk_line.proofs.replies.put.Tie as tie
 
 -- l is out with the first i bytes of text from `at` on
 record Copied (out text : List ℕ) (at i : ℕ) (l : List ℕ) : Type 0 where

@@ -1,0 +1,4 @@
+-- What the contracts of this crate speak of.
+pub mod Digits
+pub mod Names
+pub mod Decimals
