@@ -8,7 +8,7 @@
  * every lent buffer as it was. What C has to see to is that each pointer is not NULL, even where its length is 0, is aligned for its type, points to
  * as many values as its length says, and that nothing which is written to overlaps anything else that is handed over.
  *
- * Order and words are those of document 01; crates/lichenfrock/src/lib.rt has the contract of each function.
+ * Order and words are those of document 01; crates/lichenfrock/src has the contract of each function.
  */
 #ifndef LICHENFROCK_H
 #define LICHENFROCK_H

@@ -1,4 +1,4 @@
-//! The functions of the archive, as `include/lichenfrock.h` declares them, in its order. Their contracts are in `crates/lichenfrock/src/lib.rt`; none
+//! The functions of the archive, as `include/lichenfrock.h` declares them, in its order. Their contracts are in `crates/lichenfrock/src`; none
 //! asks anything of its caller but what a pointer and a length say, so those without such a pair are safe to call.
 
 unsafe extern "C" {
