@@ -33,8 +33,8 @@ wraps-twice : (x k m : ℕ) → (x % m + k) % m ≡ (x + k) % m
 wraps-twice x k m = rw (add-mod (x % m) k m, mod-mod x m, ← add-mod x k m)
 
 -- a remainder by w², from its two digits to the base w
-two-digits : (n w : ℕ) → 0 < w → n % w + w * (n / w % w) ≡ n % (w * w)
-two-digits n w h = add-comm (n % w) (w * (n / w % w)) ∙ ap (λ (q : ℕ). q + n % w) (mul-comm w (n / w % w)) ∙ sym (mod-mul n h h)
+remainder-by-digits : (n w : ℕ) → 0 < w → n % w + w * (n / w % w) ≡ n % (w * w)
+remainder-by-digits n w h = add-comm (n % w) (w * (n / w % w)) ∙ ap (λ (q : ℕ). q + n % w) (mul-comm w (n / w % w)) ∙ sym (mod-mul n h h)
 
 -- the sum of a, b and c, d: exactly, and with an upper limb that wraps
 module _ (a b c d : ℕ) where
@@ -56,7 +56,7 @@ module _ (a b c d : ℕ) where
     limbs-sum-wraps {u} {hi} g h =
         let upper : hi ≡ (limbs a b + limbs c d) / 2 ^ 64 % 2 ^ 64 = rw (upper-sum, h, g, f) (wraps-twice (b + d) _ (2 ^ 64)) in
         let lower : lo ≡ (limbs a b + limbs c d) % 2 ^ 64 = e ∙ sym lower-sum in
-        rw (upper, lower) (two-digits (limbs a b + limbs c d) (2 ^ 64) (pow-pos 64))
+        rw (upper, lower) (remainder-by-digits (limbs a b + limbs c d) (2 ^ 64) (pow-pos 64))
 
 -- a sum that wraps at 2^128 is the sum where that is below
 pub unwrapped : {m n : ℕ} → m < 2 ^ 128 → n ≡ m % 2 ^ 128 → n ≡ m

@@ -11,7 +11,7 @@ use Rattle.prime.specs.Elements.{half}
 use Rattle.prime.proofs.Congruence.{same, mul-same-left, mul-same-right, times-one}
 use Rattle.prime.proofs.Powers.{power-period}
 use Rattle.prime.proofs.Theorems.{power-is, power-add, two-96}
-use Rattle.prime.proofs.Halves.{two-period, half-period, halves-undo, undo, there-and-back}
+use Rattle.prime.proofs.Halves.{two-period, half-period, halves-undo, undo-shift, there-and-back}
 use Rattle.prime.proofs.Choice.{by-lt, by-le, by-eq}
 use Rattle.answers.proofs.Stands.{Stands, itself, to}
 use Rattle.words.specs.Words.{negWord}
@@ -85,7 +85,7 @@ module _ (e : ℕ) (i : 1 ≤ e) (k : e ≤ 32) where
   unfolding splitWord
   split-stands x h =
       let l : x % 2 ^ e < 2 ^ e = mod-lt x (pow-pos e) in
-      to (undo x e _ (back x))
+      to (undo-shift x e _ (back x))
       (plus-stands (x / 2 ^ e + x % 2 ^ e * 2 ^ (32 - e)) (x % 2 ^ e * 2 ^ (64 - e))
       (omega (arith, high-room x h, low-room 32 (x % 2 ^ e) (omega arith) l)) (omega (arith, taken-room (x % 2 ^ e) l)))
 
@@ -97,7 +97,7 @@ down-stands x e h k =
     by-eq (Stands (x * power P half e % P)) e 0 (λ t. to (rw (t, power-is half 0, mul-one x)) (itself x h))
     (λ n. by-eq (Stands (x * power P half e % P)) e 1 (λ t. to (rw (t, power-is half 1)) (halve-stands x h))
     (λ o. by-le (Stands (x * power P half e % P)) e 32 (λ t. split-stands e (omega arith) t x h)
-    (λ t. to (undo x e (x * power P 2 (192 - e)) (times-one P x (power P 2 (192 - e)) (power P 2 e) around)) (up-stands x (192 - e) h))))
+    (λ t. to (undo-shift x e (x * power P 2 (192 - e)) (times-one P x (power P 2 (192 - e)) (power P 2 e) around)) (up-stands x (192 - e) h))))
   where
     around : power P 2 (192 - e) * power P 2 e % P ≡ 1
     around = sym (power-add 2 (192 - e) e) ∙ ap (power P 2) (let r : 192 - e + e ≡ 192 = omega arith in r) ∙ two-period

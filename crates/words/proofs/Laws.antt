@@ -12,7 +12,7 @@ use Rattle.prime.specs.Modulus.{P}
 use Rattle.prime.specs.Elements.{half}
 use Rattle.prime.proofs.Congruence.{same, add-same, mul-same-right}
 use Rattle.prime.proofs.Theorems.{opposite}
-use Rattle.prime.proofs.Halves.{halved}
+use Rattle.prime.proofs.Halves.{half-of}
 use Rattle.prime.proofs.Choice.{by-lt, by-le, by-eq}
 use Rattle.answers.specs.Promises.{Seen}
 use Rattle.answers.proofs.Stands.{Stands, to}
@@ -67,8 +67,8 @@ neg-stands x h = record {
 pub halve-stands : (x : ℕ) → x < 2 ^ 64 → Stands (x * half % P) (halveWord x)
 unfolding halveWord
 halve-stands x h = by-eq (Stands (x * half % P)) (x % 2) 0
-    (λ t. record { below = omega arith; element = halved P half 0 _ x refl (omega arith) })
-    (λ t. record { below = omega arith; element = halved P half 1 _ x refl (omega arith) })
+    (λ t. record { below = omega arith; element = half-of P half 0 _ x refl (omega arith) })
+    (λ t. record { below = omega arith; element = half-of P half 1 _ x refl (omega arith) })
 
 -- reduction and products
 
