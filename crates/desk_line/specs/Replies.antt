@@ -1,4 +1,4 @@
--- 01, "The desk tool", whole and in one place: the bytes that answer any bytes.
+-- 01, "The desk tool", whole and in one place: the bytes that answer any bytes. How digits, names and numbers are written is the crate text's.
 use mathlib.Core.Bool.{cond}
 use mathlib.Core.List.{List, [], _∷_, _++_}
 use Prim.Native.Nat.{ℕ, suc, _%_}

@@ -67,8 +67,15 @@ first-place (suc k) (suc n) p h e =
     (λ z.
     let d : suc n % 10 ≡ 0 = sym (digit-glyph (suc n % 10) (omega arith)) ∙ ap digit (sym (alone k q last z) ∙ e) in
     omega arith)
-    (λ z. first-place k q z (omega arith) (sym (List·getD-append front (last ∷ []) 0 0 (omega (arith, length-digits 10 (places k q) q, places-some k q z (omega arith)))) ∙ e))
+    (λ z.
+    let l : 0 < length front = omega (arith, length-digits 10 (places k q) q, places-some k q z (omega arith)) in
+    first-place k q z (omega arith) (sym (List·getD-append front (last ∷ []) 0 0 l) ∙ e))
     (eq-zero-or-pos q)
+
+-- `0` and `16`.
+pub zero-and-sixteen : (decimal 0 ≡ 48 ∷ []) × (decimal 16 ≡ 49 ∷ 54 ∷ [])
+unfolding glyph digits places decimal
+zero-and-sixteen = (refl, refl)
 
 module _ (n : ℕ) (h : n < 10 ^ 20) where
   -- The digits make the number.

@@ -14,15 +14,6 @@ use Rattle.text.specs.Digits.{glyph, digit, digits, made}
 
 -- ---- one digit
 
-pub digit-glyph : (d : ℕ) → d < 16 → digit (glyph d) ≡ d
-unfolding digit glyph
-digit-glyph d h =
-    by-cases (decLt d 10)
-    (λ l. rw (lt-ltb d 10 l, le-ltb (48 + d) 48 (omega arith), lt-ltb (48 + d) 58 (omega arith)) (omega arith))
-    (λ l.
-    rw (le-ltb d 10 (omega arith), le-ltb (55 + d) 48 (omega arith), le-ltb (55 + d) 58 (omega arith), le-ltb (55 + d) 65 (omega arith), lt-ltb (55 + d) 71 (omega arith))
-    (omega arith))
-
 pub glyph-digit : (b : ℕ) → digit b < 16 → b ≡ glyph (digit b)
 unfolding digit glyph
 glyph-digit b =
@@ -31,6 +22,15 @@ glyph-digit b =
     (λ k. rw (le-ltb b 58 (omega arith)) (by-cases (decLt b 65) (λ l. rw (lt-ltb b 65 l) (omega arith))
     (λ k. rw (le-ltb b 65 (omega arith)) (by-cases (decLt b 71) (λ l. rw (lt-ltb b 71 l, le-ltb (b - 55) 10 (omega arith)) (omega arith))
     (λ k. rw (le-ltb b 71 (omega arith)) (omega arith))))))))
+
+pub digit-glyph : (d : ℕ) → d < 16 → digit (glyph d) ≡ d
+unfolding digit glyph
+digit-glyph d h =
+    by-cases (decLt d 10)
+    (λ l. rw (lt-ltb d 10 l, le-ltb (48 + d) 48 (omega arith), lt-ltb (48 + d) 58 (omega arith)) (omega arith))
+    (λ l.
+    let b = 55 + d in
+    rw (le-ltb d 10 (omega arith), le-ltb b 48 (omega arith), le-ltb b 58 (omega arith), le-ltb b 65 (omega arith), lt-ltb b 71 (omega arith)) (omega arith))
 
 -- ---- the digits of a number
 
