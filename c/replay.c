@@ -11,7 +11,7 @@
 #define NAME 26
 #define MOST 32777
 
-/* What buffers hold before they are written, in every byte; and words and indices, so that a function which leaves them out is found out. */
+/* What buffers hold before they are written, in every byte; and words and indices, so that a function which leaves them out is detected. */
 #define UNTOUCHED UINT64_C(0xA5A5A5A5A5A5A5A5)
 
 /* What a line asks: two words, a step, and two lengths. */

@@ -6,8 +6,8 @@ use native.Mathlib.Omega.{arith}
 use lib.Dec.{lit<}
 use Rattle.prime.specs.Modulus.{P}
 use Rattle.prime.specs.Powers.{power}
-use Rattle.prime.proofs.Fast.{fast}
-use Rattle.prime.proofs.Theorems.{fast-power, generator-no-square}
+use Rattle.prime.proofs.Fast.{fast, fast-power}
+use Rattle.prime.proofs.Theorems.{generator-no-square}
 use Rattle.words.specs.Words.{canonical, addWord, subWord, negWord, reduceWord, mulWord, halveWord}
 use Rattle.shifts.specs.Shifts.{upWord, shiftUpWord, splitWord, downWord, shiftDownWord}
 use Rattle.sums.specs.Sums.{products, dotProducts}
@@ -17,7 +17,7 @@ use Rattle.calls.specs.Placements.{given, placements}
 
 -- a product of powers, computed
 powers : (x d g e : ℕ) → power P x d * power P g e % P ≡ fast P x d * fast P g e % P
-powers x d g e = ap₂ (λ (a b : ℕ). a * b % P) (sym (fast-power x d)) (sym (fast-power g e))
+powers x d g e = ap₂ (λ (a b : ℕ). a * b % P) (sym (fast-power P x d)) (sym (fast-power P g e))
 
 root-of-minus-one : rootWord (P - 1) ≡ 2 ^ 48
 unfolding fast

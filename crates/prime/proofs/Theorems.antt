@@ -12,9 +12,7 @@ use Rattle.prime.specs.Lists.{Each}
 use Rattle.prime.specs.Powers.{power, power-suc}
 use Rattle.prime.specs.Residues.{Multiple, Square}
 use Rattle.prime.specs.Polynomials.{Root, Zero, Different}
-use Rattle.prime.proofs.Fast.{fast}
 use Rattle.prime.proofs.Powers as powers
-use Rattle.prime.proofs.Fast as quick
 use Rattle.prime.proofs.Congruence.{same}
 use Rattle.prime.proofs.Inverses as inverses
 use Rattle.prime.proofs.Squares as squares
@@ -26,10 +24,6 @@ use Rattle.prime.proofs.Prime.{field, generates}
 -- A power is the remainder of the whole power.
 pub power-is : (x e : ℕ) → power P x e ≡ x ^ e % P
 power-is = powers.power-is P
-
--- The fast form is the same.
-pub fast-power : (x e : ℕ) → fast P x e ≡ power P x e
-fast-power = quick.fast-power P
 
 -- Exponents add.
 pub power-add : (x i j : ℕ) → power P x (i + j) ≡ power P x i * power P x j % P

@@ -6,9 +6,8 @@ use native.Mathlib.Omega.{arith}
 use lib.Dec.{lit<}
 use Rattle.prime.specs.Modulus.{P}
 use Rattle.prime.specs.Powers.{power}
-use Rattle.prime.proofs.Fast.{fast}
+use Rattle.prime.proofs.Fast.{fast, fast-power}
 use Rattle.prime.proofs.Powers.{power-below, power-add}
-use Rattle.prime.proofs.Theorems.{fast-power}
 use Rattle.roots.specs.Roots.{G, generatorWord}
 
 -- ---- the table
@@ -19,17 +18,17 @@ quick k = fast P G (2 ^ (32 - k))
 
 -- a word that is the rule's at a key, where the key is the entry's number
 pub at-key : {r bits k : ℕ} → bits ≡ k → r ≡ quick k → r ≡ generatorWord bits
-at-key {k = k} h q = q ∙ fast-power G (2 ^ (32 - k)) ∙ ap generatorWord (sym h)
+at-key {k = k} h q = q ∙ fast-power P G (2 ^ (32 - k)) ∙ ap generatorWord (sym h)
 
 -- ---- the order of G is 2^32: G^(2^31) is not 1 yet, but -1
 
 pub G-order : power P G (2 ^ 32) ≡ 1
 unfolding fast
-G-order = sym (fast-power G (2 ^ 32))
+G-order = sym (fast-power P G (2 ^ 32))
 
 pub G-half : power P G (2 ^ 31) ≡ P - 1
 unfolding fast
-G-half = sym (fast-power G (2 ^ 31))
+G-half = sym (fast-power P G (2 ^ 31))
 
 -- ---- the entries: 01's "entry 0 is 1, each later entry squares to the one before, entry 1 is P-1", and each is canonical
 

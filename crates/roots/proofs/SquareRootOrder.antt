@@ -11,10 +11,10 @@ use lib.Pow.{pow-add}
 use Rattle.prime.specs.Modulus.{P, generator}
 use Rattle.prime.specs.Powers.{power}
 use Rattle.prime.specs.Residues.{Multiple}
-use Rattle.prime.proofs.Fast.{fast}
+use Rattle.prime.proofs.Fast.{fast, fast-power}
 use Rattle.prime.proofs.Congruence.{same, add-same, mul-same-left, mul-same-right}
 use Rattle.prime.proofs.Powers.{power-mod}
-use Rattle.prime.proofs.Theorems.{fast-power, power-add, power-mul, power-base, no-zero-divisors, order}
+use Rattle.prime.proofs.Theorems.{power-add, power-mul, power-base, no-zero-divisors, order}
 use Rattle.roots.specs.Roots.{G}
 use Rattle.roots.proofs.Generated.{G-half}
 
@@ -28,7 +28,7 @@ more a x h k r e =
 
 pub generated : power P generator (2 ^ 32 - 1) ≡ G
 unfolding fast
-generated = sym (fast-power generator (2 ^ 32 - 1)) ∙ eqb→eq (fast P generator (2 ^ 32 - 1)) G tt
+generated = sym (fast-power P generator (2 ^ 32 - 1)) ∙ eqb→eq (fast P generator (2 ^ 32 - 1)) G tt
 
 order-of-G : (d : ℕ) → power P G d ≡ 1 → Multiple (2 ^ 32) d
 order-of-G d e =

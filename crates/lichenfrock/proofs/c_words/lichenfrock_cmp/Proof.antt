@@ -1,4 +1,4 @@
--- Each case is told by its number.
+-- Each case goes out as its number.
 use borrow.Author.Needs.{needs}
 use mathlib.Core.Path.{_≡_, sym, ap}
 use Rattle.answers.specs.Promises.{Seen}
