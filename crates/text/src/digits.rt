@@ -28,7 +28,7 @@ fn glyph(digit: u64) -> u8
     }
 }
 
-// Puts the last n digits of a number to the front of text, the lowest of them first.
+// Puts the last n digits of a number to the front of text, the highest in front; the lowest is written first.
 pub(crate) fn put_digits(number: u64, base: u64, n: usize, text: &mut [u8])
     requires { ⌜ (0 < base) × (base ≤ 16) × (n ≤ length (now text)) ⌝ }
     ensures { λ r. ⌜ now (text .exit) ≡ digits base n number ++ drop n (now (text .entry)) ⌝ }
