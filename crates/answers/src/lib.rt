@@ -1,4 +1,6 @@
 // What an operation answers that may refuse. The Rust has `Option`; here each refusal has its name and its number, in one table for all crates.
+#![tactic(auto)]
+
 mod refusals;
 mod replies;
 

@@ -3,6 +3,8 @@
 //
 // Where reading fails, the lines that had ended are answered, the open one is not, since its end is not known, and standard error says why.
 // Where writing fails, it stops, and standard error says why.
+#![tactic(auto)]
+
 ghost use Rattle.std.specs.Prelude.{◌≡◌, ◌*◌, ◌≤◌, length};
 ghost use Rattle.io.specs.Counts.{IsPrefixLen};
 ghost use Rattle.desk_line.specs.Promises.{Feeds};

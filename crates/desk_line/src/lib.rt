@@ -1,4 +1,6 @@
 // The desk tool's line reader, by document 01, "The desk tool": what answers a line, and what answers an input that comes in pieces.
+#![tactic(auto)]
+
 mod desk;
 mod digits;
 mod lines;

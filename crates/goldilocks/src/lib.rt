@@ -1,5 +1,6 @@
 // The port's table of contents: every public operation of document 01, in its order. Each keeps the contract of the crate that proves it.
 // A word is any u64 and stands for the element x mod P; no operation asks anything of its caller.
+#![tactic(auto)]
 
 // P, 2^64 - 2^32 + 1.
 pub use words::ORDER_U64;

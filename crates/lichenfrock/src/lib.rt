@@ -2,6 +2,7 @@
 // operations go out, and in each the functions stand in document 01's order. Numbers and slices only go through, a slice as a pointer and a length. Where an
 // operation can be refused the result is the refusal's number, 0 for none, and the word or the index goes out by reference. Each function promises what the
 // operation promises and asks nothing of its caller (proofs/Same), and no second answer goes out of it (proofs/Out.antt).
+#![tactic(auto)]
 
 // How an answer goes out where there are numbers only: a refusal's number beside a word or an index.
 mod handing;

@@ -1,5 +1,7 @@
 // 128 bits in two words, the Rust's u128: bits by a count, sums with their carry, the wide product. It knows nothing of P, and no operation of the port
 // stands here: its functions are for the crates above, and ask nothing of them.
+#![tactic(auto)]
+
 mod bits;
 mod product;
 mod wide;

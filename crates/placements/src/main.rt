@@ -1,5 +1,7 @@
 // Runs document 01's "Placements worked by hand", in its order, and writes a line for each: what is asked, and what it got. Only what is asked
 // stands here; what it must get stands in this crate's file `stdout`.
+#![tactic(auto)]
+
 use desk_line::spell;
 use goldilocks::{
     Answer, Coded, ORDER_U64, add, decode, div_2exp_u64, dot_product, from_canonical_checked_i64,

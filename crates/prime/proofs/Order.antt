@@ -1,7 +1,7 @@
 -- What a certificate says of the order of g: where g^N = 1 modulo m and g^(N / q) is not 1 for any prime q of N, every d with g^d = 1 is
 -- a multiple of N. For d has each prime factor of N, one after the other: if n divides d and n·q does not, then d·u is n modulo n·q for
 -- some u, so g^(N / q) is a power of g^d, which is 1.
-use mathlib.Core.Path.{◌≡◌, sym, ap, ◌∙◌}
+use mathlib.Core.Path.{◌≡◌, sym, ap, ◌∙◌, subst}
 use mathlib.Core.Logic.{◌⊎◌, inl, inr, ◌≢◌}
 use mathlib.Core.List.{List, [], ◌∷◌}
 use mathlib.Core.Bool.{not}
@@ -47,7 +47,7 @@ module _ (m g : ℕ) where
   next n q qs t =
       let x : ℕ = fast m g (n * product qs) in
       let (not_one, rest) = and_yes (not (eqb x 1)) (pratt m g (n * q) qs) t in
-      (λ e. T_not (eqb x 1) not_one (rw (fast_power m g (n * product qs), e) tt), rest)
+      (λ e. T_not (eqb x 1) not_one (subst (λ (y : ℕ). T (eqb y 1)) (sym (fast_power m g (n * product qs) ∙ e)) tt), rest)
 
   -- m is N + 1, and g^N = 1
   pub top : (n : ℕ) (qs : List ℕ) → T (pratt m g n qs) → (suc (n * product qs) ≡ m) × (power m g (n * product qs) ≡ 1)

@@ -2,6 +2,8 @@
 // and writes each line that does not agree, with what it got, and last how many do and do not.
 //
 // Where reading or writing fails, it stops, standard error says why, and no count is written: a run that failed is never taken for a good one.
+#![tactic(auto)]
+
 ghost use Rattle.std.specs.Prelude.{◌≡◌, ◌+◌, ◌%◌, ◌^◌, length};
 ghost use Rattle.io.specs.Counts.{IsPrefixLen};
 ghost use Rattle.replay.specs.Room.{Room, line_bytes, piece_bytes};

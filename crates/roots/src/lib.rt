@@ -1,5 +1,7 @@
 // Inverses, roots and generators, ported from the scalar part of p3-goldilocks (`src/goldilocks.rs`). What stands here rests on the elements and
 // ranges that `words` promises, and opens none of its rules for held words.
+#![tactic(auto)]
+
 mod generators;
 mod inverses;
 mod powers;

@@ -1,5 +1,7 @@
 // Shifts by powers of two, for any exponent, ported from the scalar part of p3-goldilocks (`src/goldilocks.rs`). In the Goldilocks field 2^96 = -1 and
 // 2^192 = 1 modulo P.
+#![tactic(auto)]
+
 mod down;
 mod powers_of_two;
 mod up;

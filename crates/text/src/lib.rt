@@ -1,4 +1,6 @@
 // The bytes of a line of text: digits, names, and numbers in decimal. What is done with a line is for the crates above.
+#![tactic(auto)]
+
 mod decimals;
 mod digits;
 mod names;

@@ -1,5 +1,7 @@
 // Words as bytes, and back, by document 01's rules: an element is 8 bytes, little-endian, canonical. The Rust writes them by
 // `RawDataSerializable`, and has serde to read one.
+#![tactic(auto)]
+
 mod elements;
 mod lists;
 

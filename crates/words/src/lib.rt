@@ -1,5 +1,7 @@
 // What works on words one at a time, ported from the scalar part of p3-goldilocks (`src/goldilocks.rs`), in the order of document 01. A word is any u64
 // and stands for the element x mod P. No operation asks anything of its caller.
+#![tactic(auto)]
+
 mod additive;
 mod canonical;
 mod constants;

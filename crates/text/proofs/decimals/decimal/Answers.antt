@@ -3,26 +3,21 @@ use mathlib.Core.Path.{◌≡◌, refl, sym, ◌∙◌}
 use mathlib.Core.List.{List, ◌++◌}
 use Prim.Native.Nat.{ℕ, max}
 use native.Mathlib.Omega.{arith}
-use borrow.Author.Rules.{rules}
 use lib.ListN.{drop, replicate}
 use Rattle.text.specs.Digits.{digits}
 use Rattle.text.specs.Decimals.{places, decimal, Spells}
 use Rattle.text.proofs.DecimalLaws.{drop_zeros, decimal_count, length_decimal}
-use Rattle.text.proofs.decimals.decimal.Statement.{statement}
-use Rattle.text.proofs.decimals.decimal.Tie as tie
+use Rattle.text.proofs.decimals.decimal.Goals as goal
 
 spells : (n : ℕ) {len : ℕ} {text : List ℕ} → len ≡ max 1 (places 20 n) → text ≡ digits 10 len n ++ drop len (replicate 20 0)
     → Spells n (record { text = text; len = len })
 unfolding decimal
 spells n {len} e p = record { count = e ∙ sym (decimal_count n); bytes = p ∙ rw (drop_zeros len 20, e, decimal_count n) refl }
 
-put-digits-requires : tie.Need-put-digits-requires
-put-digits-requires c κs =
-    let n = c.before.before.args.n in
+pub put_digits-requires : goal.put_digits-requires
+put_digits-requires c =
+    let n = c.args.n in
     (omega arith, omega arith, omega (arith, decimal_count n, length_decimal 20 n (omega arith) (omega arith)))
 
-returns : tie.Need-returns
-returns c = spells _ c.before.before.before.count-digits.ensures c.before.put-digits.ensures
-
-pub decimal_spec : {M : Type 1} → statement M
-decimal_spec = tie.close (tie.spec (λ c κs. search rules) (λ c. search rules) put-digits-requires returns)
+pub returns : goal.returns
+returns c = spells _ c.count_digits-len.ensures c.put_digits.ensures
