@@ -13,7 +13,7 @@ use desk_line::{Desk, Fed};
 use libc::{STDIN_FILENO, STDOUT_FILENO};
 
 // The desk after a turn, and whether there may be more to read.
-#[derive(Drop)]
+#[derive(Clone, Copy)]
 struct Progress {
     desk: Desk,
     more: bool,

@@ -8,14 +8,14 @@ use super::lines::answer;
 use super::replies::{LINE_END, LONGEST, Reply, put, silence, spell};
 
 // The first 64 bytes of the open line, and how many it has, 64 for more. With 64 a line is unreadable whatever follows.
-#[derive(Drop)]
+#[derive(Clone, Copy)]
 pub struct Desk {
     line: [u8; 64],
     len: usize,
 }
 
 // What feeding a piece answers: the desk after it, how many of its bytes were taken, and how many were written.
-#[derive(Drop)]
+#[derive(Clone, Copy)]
 pub struct Fed {
     pub desk: Desk,
     pub taken: usize,

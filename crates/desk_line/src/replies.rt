@@ -14,7 +14,7 @@ pub(crate) const LINE_END: u8 = 10;
 pub(crate) const LONGEST: usize = 17;
 
 // A reply: its first len bytes, with zeros behind.
-#[derive(Drop)]
+#[derive(Clone, Copy)]
 pub struct Reply {
     pub text: [u8; 17],
     pub len: usize,

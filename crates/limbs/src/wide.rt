@@ -6,7 +6,7 @@ use super::bits::{high_bits, low_bits};
 use std::num::wrapping_add_u64;
 
 // A number below 2^128 in two limbs, lo + 2^64 * hi.
-#[derive(Drop)]
+#[derive(Clone, Copy)]
 pub struct Limbs {
     pub lo: u64,
     pub hi: u64,

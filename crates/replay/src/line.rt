@@ -17,7 +17,7 @@ pub(crate) const LINE_END: u8 = 10;
 const NAME: usize = 26;
 
 // What an operation is called with.
-#[derive(Drop)]
+#[derive(Clone, Copy)]
 pub(crate) struct Arguments {
     pub a: u64,
     pub b: u64,
@@ -27,7 +27,7 @@ pub(crate) struct Arguments {
 }
 
 // Arguments, if every byte of their columns is in its place.
-#[derive(Drop)]
+#[derive(Clone, Copy)]
 pub(crate) enum Asked {
     With(Arguments),
     Unreadable,

@@ -24,7 +24,7 @@ use text::spell_word;
 const PIECE: usize = 512 * LINE;
 
 // How many lines agree and how many do not, and whether to go on.
-#[derive(Drop)]
+#[derive(Clone, Copy)]
 struct Tally {
     agree: u64,
     differ: u64,
@@ -32,7 +32,7 @@ struct Tally {
 }
 
 // How many bytes were read, and whether reading failed.
-#[derive(Drop)]
+#[derive(Clone, Copy)]
 struct Filled {
     count: usize,
     failed: bool,

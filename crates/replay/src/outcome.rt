@@ -2,7 +2,7 @@
 use goldilocks::{Answer, Coded, Ordering};
 
 // What a call gives: the refusal's number, 0 if there is none, the index beside it, and the word.
-#[derive(Drop)]
+#[derive(Clone, Copy)]
 pub(crate) struct Outcome {
     pub number: u64,
     pub index: u64,
@@ -10,7 +10,7 @@ pub(crate) struct Outcome {
 }
 
 // An outcome, if a line has one to tell.
-#[derive(Drop)]
+#[derive(Clone, Copy)]
 pub(crate) enum Answered {
     With(Outcome),
     Unreadable,

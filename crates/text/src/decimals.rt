@@ -5,7 +5,7 @@ ghost use Rattle.text.specs.Decimals.{places, Spells};
 use super::digits::put_digits;
 
 // A number's decimal digits: its first len bytes, with zeros behind. The largest u64 has 20.
-#[derive(Drop)]
+#[derive(Clone, Copy)]
 pub struct Numeral {
     pub text: [u8; 20],
     pub len: usize,

@@ -25,7 +25,7 @@ pub fn eq(x: u64, y: u64) -> bool
 }
 
 // How two elements compare.
-#[derive(Drop)]
+#[derive(Clone, Copy)]
 pub enum Ordering {
     Less,
     Equal,
