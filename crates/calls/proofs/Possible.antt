@@ -31,7 +31,7 @@ use Rattle.wire.specs.Wire.{encoded}
 use Rattle.wire.specs.Refusals.{limit as coding_limit, sizes}
 use Rattle.wire.specs.Promises.{Encoded}
 use Rattle.sequence.proofs.Stores.{words_at}
-use Rattle.sequence.proofs.Allows.{lent, one, two}
+use Rattle.sequence.proofs.Allows.{lent_mut, lent, one, two}
 use Rattle.calls.specs.Calls.{Call, add, sub, neg, reduce, mul, square, halve, sum, dot, from_i64, from_limbs, shift_up, shift_down, inverse, square_root, seventh_root, generator, equal, compare, is_zero, slot, encode, canonical_form, outcome, figure}
 use Rattle.calls.specs.Held.{held}
 use Rattle.calls.specs.Allowed.{Allowed}
@@ -105,5 +105,5 @@ possible (slot i k) s h =
 possible (encode is before) s h =
     let ws : List ℕ = map s is in
     let (r, after, a) = code ws before in
-    (([], ([], tt)), (lent ws, (lent before, tt)), r, (lent ws, (lent after, tt)), (refl, refl), a, sym (filled a))
+    (([], ([], tt)), (lent ws, (lent_mut before, tt)), r, (lent ws, (lent_mut after, tt)), (refl, refl), a, sym (filled a))
 possible (canonical_form i) s h = one (s i) _ (held_by refl (canonical_stands (s i) (h i))) refl

@@ -9,3 +9,4 @@ pub mod Feeding
 pub mod OpenLine
 pub mod Theorems
 pub mod Example
+pub mod Copied

@@ -11,8 +11,7 @@ use Rattle.text.specs.Decimals.{decimal, Spells}
 use Rattle.text.proofs.DecimalLaws.{drop_zeros, length_decimal}
 use Rattle.desk_line.specs.Replies.{refused_line}
 use Rattle.desk_line.specs.Promises.{Says}
-use Rattle.desk_line.proofs.replies.refused.Statement.{statement}
-use Rattle.desk_line.proofs.replies.refused.Tie as tie
+use Rattle.desk_line.proofs.replies.refused.Goals as goal
 
 -- `refused `, and room
 blank : List ℕ
@@ -43,14 +42,19 @@ module _ {m : ℕ} (h : m ≤ 99) {d : Numeral} (s : Spells m d) where
         bytes = rw (rest, put) (set_at t 0 zeros 10 (8 + n) (omega (arith, s.count)) ∙ sym (append_snoc t 10 zeros));
       }
 
-pub refused_spec : {M : Type 1} → statement M
+pub put-requires : goal.put-requires
 unfolding blank
-refused_spec =
-    tie.close
-    (tie.spec
-    (λ c κs. search rules) (λ c. search rules) (λ c. search rules)
-    (λ c κs. let s = c.before.before.before.decimal.ensures in (fits (search rules) s, omega (arith, short (search rules) s)))
-    (λ c. omega (arith, short (search rules) c.before.before.before.before.before.decimal.ensures))
-    (λ c. omega (arith, short (search rules) c.before.before.before.before.before.decimal.ensures))
-    (λ c. omega (arith, short (search rules) c.before.before.before.before.before.decimal.ensures))
-    (λ c. written (search rules) c.before.before.before.before.before.decimal.ensures c.before.put.ensures))
+put-requires c = let s = c.decimal-spelt.ensures in (fits (search rules) s, omega (arith, short (search rules) s))
+
+pub overflow_add-text : goal.overflow_add-text
+overflow_add-text c = omega (arith, short (search rules) c.decimal-spelt.ensures)
+
+pub bounds-text-n : goal.bounds-text-n
+bounds-text-n c = omega (arith, short (search rules) c.decimal-spelt.ensures)
+
+pub overflow_add-result : goal.overflow_add-result
+overflow_add-result c = omega (arith, short (search rules) c.decimal-spelt.ensures)
+
+pub returns : goal.returns
+unfolding blank
+returns c = written (search rules) c.decimal-spelt.ensures c.put.ensures

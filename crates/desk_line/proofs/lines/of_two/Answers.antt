@@ -1,0 +1,31 @@
+-- The names are compared in turn: all before the one that is chosen are passed.
+use mathlib.Core.Path.{refl, ap}
+use Rattle.answers.specs.declared.replies.Answer.TheVariants.{Word}
+use Rattle.desk_line.specs.Replies.{of_two}
+use Rattle.desk_line.proofs.Parts.{chosen, passed}
+use Rattle.desk_line.proofs.lines.of_two.Goals as goal
+
+pub returns-then-same : goal.returns-then-same
+unfolding of_two
+returns-then-same c =
+    chosen _ _ c.same.ensures c.if-same.true (ap Word c.add.ensures.word)
+
+pub returns-then-same-2 : goal.returns-then-same-2
+unfolding of_two
+returns-then-same-2 c =
+    passed _ _ c.same.ensures c.if-same.false
+    (chosen _ _ c.same-2.ensures c.if-same-2.true (ap Word c.sub.ensures.word))
+
+pub returns-then-same-3 : goal.returns-then-same-3
+unfolding of_two
+returns-then-same-3 c =
+    passed _ _ c.same.ensures c.if-same.false
+    (passed _ _ c.same-2.ensures c.if-same-2.false
+    (chosen _ _ c.same-3.ensures c.if-same-3.true (ap Word c.mul.ensures.word)))
+
+pub returns : goal.returns
+unfolding of_two
+returns c =
+    passed _ _ c.same.ensures c.if-same.false
+    (passed _ _ c.same-2.ensures c.if-same-2.false
+    (passed _ _ c.same-3.ensures c.if-same-3.false refl))
