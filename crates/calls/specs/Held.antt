@@ -1,5 +1,5 @@
 -- How the calls are answered in held words, by the definitions that the contracts of the functions name.
-use Rattle.std.specs.Prelude.{true, not, List, map, ℕ, ◌%◌, ◌^◌, eqb, leb, length}
+use Rattle.std.specs.Prelude.{true, not, List, map, ℕ, ◌%◌, ◌^◌, ◌==◌, nat_le, length}
 use Rattle.prime.specs.Modulus.{P}
 use Rattle.answers.specs.Answers.{kept}
 use Rattle.words.specs.Words.{canonical, add_word, sub_word, neg_word, reduce_word, mul_word, halve_word, from_i64_word, from_u128_word}
@@ -14,15 +14,15 @@ use Rattle.calls.specs.Calls.{Call, add, sub, neg, reduce, mul, square, halve, s
 
 -- The sum of the words ws.
 abbrev pub sum_outcome : List ℕ → Outcome Says ℕ
-sum_outcome ws = answered (leb (length ws) limit) 5 (sum_word ws)
+sum_outcome ws = answered (nat_le (length ws) limit) 5 (sum_word ws)
 
 -- The dot product of xs and ys.
 abbrev pub dot_outcome : List ℕ → List ℕ → Outcome Says ℕ
-dot_outcome xs ys = answered (eqb (dot_refusal xs ys) 0) (dot_refusal xs ys) (dot_word xs ys)
+dot_outcome xs ys = answered (dot_refusal xs ys == 0) (dot_refusal xs ys) (dot_word xs ys)
 
 -- The inverse of x.
 abbrev pub inverse_outcome : ℕ → Outcome Says ℕ
-inverse_outcome x = answered (not (eqb (x % P) 0)) 2 (inverse_word x)
+inverse_outcome x = answered (not (x % P == 0)) 2 (inverse_word x)
 
 -- The square root of x.
 abbrev pub root_outcome : ℕ → Outcome Says ℕ
@@ -30,11 +30,11 @@ root_outcome x = answered (is_square x) 3 (root_word x)
 
 -- The generator of 2^k elements.
 abbrev pub generator_outcome : ℕ → Outcome Says ℕ
-generator_outcome k = answered (leb k 32) 7 (generator_word k)
+generator_outcome k = answered (nat_le k 32) 7 (generator_word k)
 
 -- The slot of k bits.
 abbrev pub slot_outcome : ℕ → ℕ → Outcome Says ℕ
-slot_outcome x k = figured (leb k 32) 7 (canonical x % 2 ^ k)
+slot_outcome x k = figured (nat_le k 32) 7 (canonical x % 2 ^ k)
 
 -- The words ws, written into a buffer.
 abbrev pub encode_outcome : List ℕ → List ℕ → Outcome Says ℕ
@@ -59,9 +59,9 @@ held (inverse i) s = inverse_outcome (s i)
 held (square_root i) s = root_outcome (s i)
 held (seventh_root i) s = word (seventh_word (s i))
 held (generator k) s = generator_outcome k
-held (equal i j) s = said (truth (eqb (canonical (s i)) (canonical (s j))))
+held (equal i j) s = said (truth (canonical (s i) == canonical (s j)))
 held (compare i j) s = said (ordering (order (canonical (s i)) (canonical (s j))))
-held (is_zero i) s = said (truth (eqb (canonical (s i)) 0))
+held (is_zero i) s = said (truth (canonical (s i) == 0))
 held (slot i k) s = slot_outcome (s i) k
 held (encode is before) s = encode_outcome (map s is) before
 held (canonical_form i) s = figured true 0 (canonical (s i))

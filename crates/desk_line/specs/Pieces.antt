@@ -1,5 +1,5 @@
 -- What the desk keeps between two pieces of input, and what it writes for a piece.
-use Rattle.std.specs.Prelude.{cond, List, [], ◌∷◌, ◌++◌, ℕ, ◌+◌, eqb, ltb, take, set, replicate}
+use Rattle.std.specs.Prelude.{cond, List, [], ◌∷◌, ◌++◌, ℕ, ◌+◌, ◌==◌, nat_lt, take, set, replicate}
 use Rattle.desk_line.specs.declared.desk.Desk.{Desk}
 use Rattle.desk_line.specs.Replies.{reply}
 
@@ -14,8 +14,8 @@ begun d = take d.len d.line
 -- The desk after a byte: a line end leaves no open line, and any other byte is kept while there is room.
 unfoldable pub step : Desk → ℕ → Desk
 step d b =
-    cond (eqb b 10) (record { line = d.line; len = 0 })
-    (cond (ltb d.len 64) (record { line = set d.line d.len b; len = d.len + 1 }) d)
+    cond (b == 10) (record { line = d.line; len = 0 })
+    (cond (nat_lt d.len 64) (record { line = set d.line d.len b; len = d.len + 1 }) d)
 
 -- The desk after a piece.
 unfoldable pub after : Desk → List ℕ → Desk
@@ -25,11 +25,11 @@ after d (b ∷ piece) = after (step d b) piece
 -- What is written for a piece: a reply at each line end.
 unfoldable pub written : Desk → List ℕ → List ℕ
 written d [] = []
-written d (b ∷ piece) = cond (eqb b 10) (reply (begun d)) [] ++ written (step d b) piece
+written d (b ∷ piece) = cond (b == 10) (reply (begun d)) [] ++ written (step d b) piece
 
 -- What is written when the input ends: "a last line without it counts if it has a byte".
 unfoldable pub last : Desk → List ℕ
-last d = cond (eqb d.len 0) [] (reply (begun d))
+last d = cond (d.len == 0) [] (reply (begun d))
 
 -- All that is written for an input that comes in these pieces.
 unfoldable pub spoken : Desk → List (List ℕ) → List ℕ

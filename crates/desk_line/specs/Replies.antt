@@ -1,5 +1,5 @@
 -- 01, "The desk tool", whole and in one place: the bytes that answer any bytes. How digits, names and numbers are written is the crate text's.
-use Rattle.std.specs.Prelude.{cond, List, [], ◌∷◌, ◌++◌, ℕ, suc, ◌%◌, eqb, take, drop}
+use Rattle.std.specs.Prelude.{cond, List, [], ◌∷◌, ◌++◌, ℕ, suc, ◌%◌, ◌==◌, take, drop}
 use Rattle.prime.specs.Modulus.{P}
 use Rattle.answers.specs.declared.replies.Answer.{Answer}
 use Rattle.answers.specs.declared.replies.Answer.TheVariants.{Word, Refused}
@@ -58,7 +58,7 @@ of_two name x y =
 -- Of the four names with one word, the two that may refuse; another name is unreadable.
 unfoldable pub may_refuse : List ℕ → ℕ → Answer
 may_refuse name x =
-    cond (same name inv) (cond (eqb (x % P) 0) (Refused InverseOfZero) (Word (inverse_word x)))
+    cond (same name inv) (cond (x % P == 0) (Refused InverseOfZero) (Word (inverse_word x)))
     (cond (same name root) (cond (is_square x) (Word (root_word x)) (Refused NoSquareRoot))
     (Refused Unreadable))
 
@@ -102,7 +102,7 @@ reply line = text (answer_to line)
 unfoldable pub replies_from : List ℕ → List ℕ → List ℕ
 replies_from [] [] = []
 replies_from (b ∷ line) [] = reply (b ∷ line)
-replies_from line (b ∷ input) = cond (eqb b 10) (reply line ++ replies_from [] input) (replies_from (line ++ (b ∷ [])) input)
+replies_from line (b ∷ input) = cond (b == 10) (reply line ++ replies_from [] input) (replies_from (line ++ (b ∷ [])) input)
 
 -- The replies to an input.
 abbrev pub replies : List ℕ → List ℕ

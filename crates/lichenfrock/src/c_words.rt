@@ -1,5 +1,5 @@
 // The C functions of `words`: sums, differences, products, halves; conversions; comparison and canonical form; slots; checked readers; the raw word.
-ghost use Rattle.std.specs.Prelude.{◌+◌, ◌*◌, ◌-◌, ◌%◌, eqb};
+ghost use Rattle.std.specs.Prelude.{◌+◌, ◌*◌, ◌-◌, ◌%◌, ◌==◌};
 ghost use Rattle.prime.specs.Modulus.{P};
 ghost use Rattle.prime.specs.Elements.{half, residue};
 ghost use Rattle.answers.specs.Promises.{Held, Seen};
@@ -91,7 +91,7 @@ pub extern "C" fn lichenfrock_from_u128(lo: u64, hi: u64) -> u64
 // Whether x and y are the same element.
 #[unsafe(no_mangle)]
 pub extern "C" fn lichenfrock_eq(x: u64, y: u64) -> bool
-    ensures { Seen (eqb (canonical x) (canonical y)) (eqb (x % P) (y % P)) result }
+    ensures { Seen (canonical x == canonical y) (x % P == y % P) result }
 {
     eq(x, y)
 }
@@ -111,7 +111,7 @@ pub extern "C" fn lichenfrock_cmp(x: u64, y: u64) -> i32
 // Whether x is zero, as 0 and P are.
 #[unsafe(no_mangle)]
 pub extern "C" fn lichenfrock_is_zero(x: u64) -> bool
-    ensures { Seen (eqb (canonical x) 0) (eqb (x % P) 0) result }
+    ensures { Seen (canonical x == 0) (x % P == 0) result }
 {
     is_zero(x)
 }

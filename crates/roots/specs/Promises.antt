@@ -1,5 +1,5 @@
 -- The promises of the contracts: the canonical word that document 01 gives, and what it is good for.
-use Rattle.std.specs.Prelude.{◌≡◌, not, ◌≢◌, ℕ, ◌*◌, ◌%◌, eqb, leb}
+use Rattle.std.specs.Prelude.{◌≡◌, not, ◌≢◌, ℕ, ◌*◌, ◌%◌, ◌==◌, nat_le}
 use Rattle.prime.specs.Modulus.{P}
 use Rattle.prime.specs.Powers.{power}
 use Rattle.prime.specs.Residues.{Square}
@@ -10,7 +10,7 @@ use Rattle.roots.specs.Roots.{generator_word, inverse_word, seventh_word, is_squ
 
 -- Zero is refused 2; any other x gives its inverse, whose product with x is 1.
 pub record Inverted (x : ℕ) (r : Answer) : Type 0 where
-  pub answered : Answered (not (eqb (x % P) 0)) 2 (inverse_word x) (inverse_word x) r
+  pub answered : Answered (not (x % P == 0)) 2 (inverse_word x) (inverse_word x) r
   pub product : x % P ≢ 0 → x * word_of r % P ≡ 1
 
 -- Where no element squares to x it is refused 3; else the answer is document 01's root, and it squares to x.
@@ -26,4 +26,4 @@ pub record SeventhRoot (x r : ℕ) : Type 0 where
 
 -- The generator of 2^bits elements; above 32 bits it is refused 7.
 abbrev pub Generated : ℕ → Answer → Type 0
-Generated bits r = Answered (leb bits 32) 7 (generator_word bits) (generator_word bits) r
+Generated bits r = Answered (nat_le bits 32) 7 (generator_word bits) (generator_word bits) r

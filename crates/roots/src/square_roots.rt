@@ -1,5 +1,5 @@
 // Square roots, by the algorithm of Tonelli and Shanks. Ports `Field::try_sqrt`.
-ghost use Rattle.std.specs.Prelude.{◌≡◌, ◌%◌, eqb};
+ghost use Rattle.std.specs.Prelude.{◌≡◌, ◌%◌, ◌==◌};
 ghost use Rattle.prime.specs.Modulus.{P};
 ghost use Rattle.roots.specs.Roots.{order_log};
 ghost use Rattle.roots.specs.Promises.{Rooted};
@@ -11,7 +11,7 @@ use words::{as_canonical_u64, is_zero, mul, square};
 
 // Whether x stands for one: 1 and P + 1 do.
 fn is_one(x: u64) -> bool
-    ensures { result ≡ eqb (x % P) 1 }
+    ensures { result ≡ x % P == 1 }
 {
     let a = as_canonical_u64(x);
     a == 1

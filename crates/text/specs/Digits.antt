@@ -1,17 +1,17 @@
 -- Digits, the bytes that write them, and numbers in digits.
-use Rattle.std.specs.Prelude.{cond, List, [], ◌∷◌, ◌++◌, ℕ, zero, suc, ◌+◌, ◌-◌, ◌*◌, ◌/◌, ◌%◌, ltb}
+use Rattle.std.specs.Prelude.{cond, List, [], ◌∷◌, ◌++◌, ℕ, zero, suc, ◌+◌, ◌-◌, ◌*◌, ◌/◌, ◌%◌, nat_lt}
 
 -- The byte of an "uppercase hex digit": `0` to `9`, then `A` to `F`.
 unfoldable pub glyph : ℕ → ℕ
-glyph d = cond (ltb d 10) (48 + d) (55 + d)
+glyph d = cond (nat_lt d 10) (48 + d) (55 + d)
 
 -- The digit that a byte writes: the bytes 48 to 57 are `0` to `9`, 65 to 70 are `A` to `F`. Every other byte gives 16, which is no digit.
 unfoldable pub digit : ℕ → ℕ
 digit b =
-    cond (ltb b 48) 16
-    (cond (ltb b 58) (b - 48)
-    (cond (ltb b 65) 16
-    (cond (ltb b 71) (b - 55)
+    cond (nat_lt b 48) 16
+    (cond (nat_lt b 58) (b - 48)
+    (cond (nat_lt b 65) 16
+    (cond (nat_lt b 71) (b - 55)
     16)))
 
 -- The last k digits of n in a base, the highest in front.

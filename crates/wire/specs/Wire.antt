@@ -1,5 +1,5 @@
 -- 01, "Words on the wire".
-use Rattle.std.specs.Prelude.{cond, List, [], ◌∷◌, ◌++◌, ℕ, zero, suc, ◌+◌, ◌*◌, ◌/◌, ◌%◌, ltb, take, drop}
+use Rattle.std.specs.Prelude.{cond, List, [], ◌∷◌, ◌++◌, ℕ, zero, suc, ◌+◌, ◌*◌, ◌/◌, ◌%◌, nat_lt, take, drop}
 use Rattle.prime.specs.Modulus.{P}
 
 -- The k low bytes of n, "little-endian".
@@ -29,4 +29,4 @@ groups (suc n) bs = number_of (take 8 bs) ∷ groups n (drop 8 bs)
 -- "the index of the first such group", one that is P or more; the number of groups if there is none.
 unfoldable pub first_bad : List ℕ → ℕ
 first_bad [] = 0
-first_bad (g ∷ gs) = cond (ltb g P) (suc (first_bad gs)) 0
+first_bad (g ∷ gs) = cond (nat_lt g P) (suc (first_bad gs)) 0
