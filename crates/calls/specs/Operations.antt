@@ -24,6 +24,6 @@ held_run cs ws = run operations.held cs ws []
 abbrev pub whole_run : List Call → List ℕ → List (Outcome Says ℕ)
 whole_run cs es = run operations.whole cs es []
 
--- os are outcomes of the calls in turn, each Allowed by the contract of its function.
+-- os are outcomes of the calls in turn, each allowed by the contract of its function.
 abbrev pub Ran : List Call → List ℕ → List (Outcome Says ℕ) → Type 0
 Ran cs ws os = Plays may cs ws [] os

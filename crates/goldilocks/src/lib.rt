@@ -47,8 +47,10 @@ pub use roots::two_adic_generator;
 
 // Equality, by canonical forms: 0 and P are equal.
 pub use words::eq;
+// What a comparison answers.
+pub use words::Ordering;
 // Order, by canonical forms.
-pub use words::{Ordering, cmp};
+pub use words::cmp;
 // Whether a word is zero, as 0 and P are.
 pub use words::is_zero;
 

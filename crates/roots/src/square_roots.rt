@@ -11,7 +11,7 @@ use words::{as_canonical_u64, is_zero, mul, square};
 
 // Whether x stands for one: 1 and P + 1 do.
 fn is_one(x: u64) -> bool
-    ensures { result ≡ x % P == 1 }
+    ensures { result ≡ (x % P == 1) }
 {
     let a = as_canonical_u64(x);
     a == 1
