@@ -1,8 +1,6 @@
 -- A list that is filled from the front by a rule, and the words of a progression one by one.
-use Rattle.std.proofs.Common.{◌≡◌, ℕ, ◌+◌, ◌/◌, ◌%◌, ◌^◌, ◌<◌, ◌≤◌, List, length, get_or, set, refl, ap, ◌∙◌, arith, length-set, get_or-set_other, get_or-set_same, below_more}
-use Rattle.io.specs.Counts.{IsPrefixLen}
+use Rattle.std.proofs.Common.{◌≡◌, ℕ, ◌+◌, ◌/◌, ◌%◌, ◌^◌, ◌<◌, List, length, get_or, set, refl, ap, ◌∙◌, arith, length-set, get_or-set_other, get_or-set_same, below_more}
 use Rattle.replay.specs.Lists.{term}
-use Rattle.replay.proofs.Counting.{counts}
 
 -- the list has the length it had, and its first i elements are the rule's
 pub record Filling (rule : ℕ → ℕ) (room i : ℕ) (l : List ℕ) : Type 0 where
@@ -22,11 +20,6 @@ one_more {rule} {i = i} {v = v} {l = l} h e f =
           (λ k b. get_or-set_other l i k v 0 (λ s. omega arith) ∙ f.done k b)
           (get_or-set_same l i v 0 h ∙ e);
     }
-
--- what the fill of n elements promises
-pub filled : {rule : ℕ → ℕ} {room i n : ℕ} {l : List ℕ} → n ≤ i → n ≤ room → Filling rule room i l
-    → ((length l ≡ room) × IsPrefixLen n l) × ((k : ℕ) → k < n → get_or l k 0 ≡ rule k)
-filled {n = n} {l = l} h r f = ((f.kept, counts n l (omega (arith, f.kept))), λ k b. f.done k (omega arith))
 
 module _ (first step : ℕ) where
   pub first_term : first < 2 ^ 64 → first ≡ term first step 0

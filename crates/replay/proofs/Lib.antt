@@ -1,3 +1,2 @@
 -- Laws that the proofs here cite.
-pub mod Counting
 pub mod Filling

@@ -1,6 +1,6 @@
 // A line of the list by its columns: an operation's name, what it is called with, and what the original Rust answered.
 ghost use Rattle.std.specs.Prelude.{◌≡◌, ◌<◌, ◌≤◌, length};
-ghost use Rattle.io.specs.Counts.{IsPrefixLen};
+ghost use Rattle.std.specs.Counts.{IsPrefixLen};
 ghost use Rattle.replay.specs.Room.{line_bytes};
 
 use super::outcome::{Answered, Outcome};

@@ -1,6 +1,6 @@
 // The lists that a line stands for, and the one word by which the contents of a list are compared.
 ghost use Rattle.std.specs.Prelude.{◌≡◌, ℕ, ◌*◌, ◌/◌, ◌%◌, ◌^◌, ◌<◌, ◌≤◌, length, slice_index};
-ghost use Rattle.io.specs.Counts.{IsPrefixLen};
+ghost use Rattle.std.specs.Counts.{IsPrefixLen};
 ghost use Rattle.replay.specs.Lists.{term, term_byte};
 
 use std::num::wrapping_add_u64;

@@ -1,11 +1,12 @@
 // Replays a list of calls of the original Rust, which it reads from standard input: it calls the operations of `goldilocks` with the same numbers
 // and writes each line that does not agree, with what it got, and last how many do and do not.
 //
-// Where reading or writing fails, it stops, standard error says why, and no count is written: a run that failed is never taken for a good one.
+// Where reading or writing fails, it stops, standard error says why, the exit status is not 0, and no count is written: a run that failed is never
+// taken for a good one.
 #![tactic(auto)]
 
-ghost use Rattle.std.specs.Prelude.{◌≡◌, ◌+◌, ◌%◌, ◌^◌, length};
-ghost use Rattle.io.specs.Counts.{IsPrefixLen};
+ghost use Rattle.std.specs.Prelude.{◌≡◌, ◌+◌, ◌%◌, ◌^◌, IfOk, length};
+ghost use Rattle.std.specs.Counts.{IsPrefixLen};
 ghost use Rattle.replay.specs.Room.{Room, line_bytes, piece_bytes};
 
 mod call;
@@ -14,9 +15,10 @@ mod lists;
 mod outcome;
 
 use call::call;
-use libc::{STDIN_FILENO, STDOUT_FILENO};
 use line::{Asked, LINE, LINE_END, name_length, read_arguments, read_outcome};
 use outcome::{Answered, Outcome, alike};
+use std::io;
+use std::io::{Read, Write};
 use std::num::wrapping_add_u64;
 use text::spell_word;
 
@@ -29,13 +31,6 @@ struct Tally {
     agree: u64,
     differ: u64,
     more: bool,
-}
-
-// How many bytes were read, and whether reading failed.
-#[derive(Clone, Copy)]
-struct Filled {
-    count: usize,
-    failed: bool,
 }
 
 impl Tally {
@@ -55,28 +50,19 @@ impl Tally {
         self
     }
 
-    // One line more that does not. Where that could not be written, there is no going on.
-    fn differed(mut self, said: bool) -> Self
+    // One line more that does not.
+    fn differed(mut self) -> Self
         ensures { (result.agree ≡ self.agree) × (result.differ ≡ (self.differ + 1) % 2 ^ 64) }
     {
         self.differ = wrapping_add_u64(self.differ, 1);
-        self.more = said;
         self
     }
 
+    // The input has ended.
     fn stopped(mut self) -> Self {
         self.more = false;
         self
     }
-}
-
-// Writes all of the bytes, and answers whether it could.
-fn write(bytes: &[u8]) -> bool {
-    let done = io::write_all(STDOUT_FILENO, bytes);
-    if !done {
-        os::fail(b"replay: standard output");
-    }
-    done
 }
 
 // How many of a line's bytes stand before its end: all, where it has none, but never the last of a whole line, where the end belongs.
@@ -97,62 +83,66 @@ fn before_end(line: &[u8]) -> usize
 }
 
 // Counts a line that cannot be read, and writes it.
-fn unreadable(line: &[u8], tally: Tally) -> Tally {
+fn unreadable<W: Write>(writer: &mut W, line: &[u8], tally: Tally) -> io::Result<Tally> {
     let n = before_end(line);
-    tally.differed(write(&line[..n]) && write(b" unreadable\n"))
+    writer.write_all(&line[..n])?;
+    writer.write_all(b" unreadable\n")?;
+    Ok(tally.differed())
 }
 
 // Counts a line that does not agree, and writes it with the outcome, in as many digits as the line has for it.
-fn differs(line: &[u8], got: Outcome, tally: Tally) -> Tally {
+fn differs<W: Write>(writer: &mut W, line: &[u8], got: Outcome, tally: Tally) -> io::Result<Tally> {
     let n = before_end(line);
     let number = spell_word(got.number);
     let index = spell_word(got.index);
     let word = spell_word(got.word);
-    let said = write(&line[..n])
-        && write(b" got ")
-        && write(&number[14..16])
-        && write(b" ")
-        && write(&index[12..16])
-        && write(b" ")
-        && write(&word);
-    tally.differed(said)
+    writer.write_all(&line[..n])?;
+    writer.write_all(b" got ")?;
+    writer.write_all(&number[14..16])?;
+    writer.write_all(b" ")?;
+    writer.write_all(&index[12..16])?;
+    writer.write_all(b" ")?;
+    writer.write_all(&word)?;
+    Ok(tally.differed())
 }
 
 // Reads a line, makes its call, and compares.
-fn judge(
+fn judge<W: Write>(
+    writer: &mut W,
     line: &[u8],
     tally: Tally,
     words: &mut [u64],
     others: &mut [u64],
     bytes: &mut [u8],
-) -> Tally
+) -> io::Result<Tally>
     requires { (length line.now ≡ line_bytes) × Room words.old others.old bytes.old }
     ensures { Room words.new others.new bytes.new }
 {
     let Asked::With(arguments) = read_arguments(line) else {
-        return unreadable(line, tally);
+        return unreadable(writer, line, tally);
     };
     let Answered::With(expected) = read_outcome(line) else {
-        return unreadable(line, tally);
+        return unreadable(writer, line, tally);
     };
     let n = name_length(line);
     let Answered::With(outcome) = call(&line[..n], arguments, words, others, bytes) else {
-        return unreadable(line, tally);
+        return unreadable(writer, line, tally);
     };
     if alike(outcome, expected) {
-        return tally.agreed();
+        return Ok(tally.agreed());
     }
-    differs(line, outcome, tally)
+    differs(writer, line, outcome, tally)
 }
 
 // Judges the lines of a piece. Only the last piece of an input can end in a short one.
-fn judge_all(
+fn judge_all<W: Write>(
+    writer: &mut W,
     piece: &[u8],
     before: Tally,
     words: &mut [u64],
     others: &mut [u64],
     bytes: &mut [u8],
-) -> Tally
+) -> io::Result<Tally>
     requires { Room words.old others.old bytes.old }
     ensures { Room words.new others.new bytes.new }
 {
@@ -160,99 +150,78 @@ fn judge_all(
     let mut at = 0;
     while at < piece.len() {
         if piece.len() - at < LINE {
-            return unreadable(&piece[at..], tally);
+            return unreadable(writer, &piece[at..], tally);
         }
         let end = at + LINE;
-        tally = judge(&piece[at..end], tally, words, others, bytes);
-        if !tally.more {
-            return tally;
-        }
+        tally = judge(writer, &piece[at..end], tally, words, others, bytes)?;
         at = end;
     }
-    tally
+    Ok(tally)
 }
 
-// Reads until the piece is full or the input has ended, so that a piece is short only at the end.
-fn fill(piece: &mut [u8]) -> Filled
-    ensures { (length piece.new ≡ length piece.old) × IsPrefixLen result.count piece.new }
+// Reads until the piece is full or the input has ended, so that a piece is short only at the end, and answers how many bytes it has.
+fn fill<R: Read>(reader: &mut R, piece: &mut [u8]) -> io::Result<usize>
+    ensures piece_len_unchanged { length piece.new ≡ length piece.old }
+    ensures count { IfOk result (λ n. IsPrefixLen n piece.new) }
 {
     let mut at = 0;
     while at < piece.len() {
-        let got = libc::read(STDIN_FILENO, &mut piece[at..]);
-        if got < 0 {
-            return Filled {
-                count: 0,
-                failed: true,
-            };
-        }
-        let more = io::count(got, &piece[at..]);
+        let more = reader.read(&mut piece[at..])?;
         if more == 0 {
-            return Filled {
-                count: at,
-                failed: false,
-            };
+            return Ok(at);
         }
         at += more;
     }
-    Filled {
-        count: at,
-        failed: false,
-    }
+    Ok(at)
 }
 
 // The last line, with the counts.
-fn write_counts(tally: Tally) {
-    let done = io::print_decimal(STDOUT_FILENO, tally.agree)
-        && io::write_all(STDOUT_FILENO, b" agree, ")
-        && io::print_decimal(STDOUT_FILENO, tally.differ)
-        && io::write_all(STDOUT_FILENO, b" do not\n");
-    if !done {
-        os::fail(b"replay: standard output");
-    }
+fn write_counts<W: Write>(writer: &mut W, tally: Tally) -> io::Result<()> {
+    writeln!(writer, "{} agree, {} do not", tally.agree, tally.differ)
 }
 
 // Reads a piece and judges its lines; at the end of the input, writes the counts.
-fn turn(
+fn turn<R: Read, W: Write>(
+    reader: &mut R,
+    writer: &mut W,
     tally: Tally,
     piece: &mut [u8],
     words: &mut [u64],
     others: &mut [u64],
     bytes: &mut [u8],
-) -> Tally
+) -> io::Result<Tally>
     requires { (length piece.old ≡ piece_bytes) × Room words.old others.old bytes.old }
     ensures { (length piece.new ≡ piece_bytes) × Room words.new others.new bytes.new }
 {
-    let filled = fill(piece);
-    if filled.failed {
-        os::fail(b"replay: standard input");
-        return tally.stopped();
-    }
-    let n = filled.count;
-    let judged = judge_all(&piece[..n], tally, words, others, bytes);
-    if !judged.more {
-        return judged;
-    }
+    let n = fill(reader, piece)?;
+    let judged = judge_all(writer, &piece[..n], tally, words, others, bytes)?;
     if n == piece.len() {
-        return judged;
+        return Ok(judged);
     }
-    write_counts(judged);
-    judged.stopped()
+    write_counts(writer, judged)?;
+    Ok(judged.stopped())
 }
 
-// Takes turns to the end of the input. A proved loop has to end, and nothing says that an input does: this one counts down from a number that
-// no run uses up.
-fn run(piece: &mut [u8], words: &mut [u64], others: &mut [u64], bytes: &mut [u8])
+// Takes turns to the end of the input. A proved loop has to end, and nothing says that an input does: this one takes no more turns than a
+// number that no run uses up.
+fn run<R: Read, W: Write>(
+    reader: &mut R,
+    writer: &mut W,
+    piece: &mut [u8],
+    words: &mut [u64],
+    others: &mut [u64],
+    bytes: &mut [u8],
+) -> io::Result<()>
     requires { (length piece.old ≡ piece_bytes) × Room words.old others.old bytes.old }
 {
     let mut tally = Tally::new();
-    let mut turns = u64::MAX;
-    while 0 < turns {
-        tally = turn(tally, piece, words, others, bytes);
+    for _ in 0..u64::MAX {
+        tally = turn(reader, writer, tally, piece, words, others, bytes)?;
         if !tally.more {
-            return;
+            return Ok(());
         }
-        turns -= 1;
     }
+    Ok(())
 }
 
 // Room for a piece.
@@ -276,10 +245,17 @@ fn bytes_room() -> [u8; 32777]
     [0; 32777]
 }
 
-fn main() {
+fn main(rt: HostRuntime) -> io::Result<()> {
     let mut piece = piece_room();
     let mut words = words_room();
     let mut others = words_room();
     let mut bytes = bytes_room();
-    run(&mut piece, &mut words, &mut others, &mut bytes);
+    run(
+        &mut rt.stdin(),
+        &mut rt.stdout(),
+        &mut piece,
+        &mut words,
+        &mut others,
+        &mut bytes,
+    )
 }
