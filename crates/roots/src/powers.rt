@@ -7,6 +7,7 @@ ghost use Rattle.prime.specs.Powers.{power};
 use words::{mul, square};
 
 // x^exp, by squaring and multiplying.
+#[tactic(auto, using(crate::proofs::Exponents::odd, crate::proofs::Exponents::even))]
 pub(crate) fn exp_u64(x: u64, exp: u64) -> u64
     ensures { result % P ≡ power P x exp }
 {

@@ -1,5 +1,6 @@
--- Laws of the definitions. Those above cite Corrections, Reductions, Laws and Signed.
+-- Laws of the definitions. Those above cite Corrections, Reductions, Laws and Signed; Readers serves the proofs here.
 pub mod Corrections
 pub mod Laws
 pub mod Reductions
 pub mod Signed
+pub mod Readers

@@ -32,6 +32,7 @@ pub fn from_u128(lo: u64, hi: u64) -> u64
 }
 
 // x where it is canonical; x at or above P is refused.
+#[tactic(auto, using(crate::proofs::Readers::taken, crate::proofs::Readers::not_taken))]
 pub fn from_canonical_checked_u64(x: u64) -> Answer
     ensures { CheckedU64 x result }
 {
@@ -48,6 +49,7 @@ const POS_BOUND: i64 = 0x7FFF_FFFF_8000_0000;
 const NEG_BOUND: i64 = -0x7FFF_FFFF_8000_0000;
 
 // n, or P + n where it is negative; out of range it is refused.
+#[tactic(auto, using(crate::proofs::Readers::too_low, crate::proofs::Readers::too_high, crate::proofs::Readers::in_between))]
 pub fn from_canonical_checked_i64(int: i64) -> Answer
     ensures { CheckedI64 int result }
 {
