@@ -44,8 +44,8 @@ fn made() -> PathBuf {
     }
     let root = Path::new(&variable("CARGO_MANIFEST_DIR")).join("../..");
     let archive = root.join("target/archive").join(&processor).join(ARCHIVE);
-    for source in ["crates", "crates.txt", "tools/archive"] {
-        println!("cargo::rerun-if-changed={}", root.join(source).display());
+    for source in sources(&root) {
+        println!("cargo::rerun-if-changed={}", source.display());
     }
     make(&root, &processor, &archive);
     let folder = PathBuf::from(variable("OUT_DIR"));
@@ -56,6 +56,16 @@ fn made() -> PathBuf {
         );
     }
     folder
+}
+
+/// What the archive is made from. Beside a crate's sources lies what rt writes when it makes it, its folder `out`.
+fn sources(root: &Path) -> Vec<PathBuf> {
+    let mut sources = vec![root.join("crates.txt"), root.join("tools/archive")];
+    for krate in fs::read_dir(root.join("crates")).into_iter().flatten().flatten() {
+        sources.extend(["src", "specs", "proofs"].map(|part| krate.path().join(part)));
+    }
+    sources.retain(|source| source.exists());
+    sources
 }
 
 /// Has `rt` prove and compile the archive; without an `rt`, one that is there already serves.

@@ -1,4 +1,4 @@
--- Laws of the definitions. Those above cite Theorems, and Counts in proofs of their own; the rest serves the proofs here.
+-- Laws of the definitions. Theorems is for those above; the rest serves the proofs here.
 pub mod Numbers
 pub mod Cutting
 pub mod Shapes

@@ -81,6 +81,7 @@ impl Desk {
     }
 
     // The input has ended: the reply to the open line, if it has a byte.
+    #[tactic(auto, unfolding(crate::specs::Pieces::last))]
     pub fn finish(self) -> Reply
         ensures { Says (last self) result }
     {

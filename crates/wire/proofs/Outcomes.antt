@@ -13,13 +13,13 @@ use Rattle.wire.specs.Refusals.{limit, sizes, reading}
 use Rattle.wire.specs.Promises.{Encoded, Decoded}
 
 module _ (n m : ℕ) where
-  too_many : limit < n → sizes n m ≡ 5
+  pub too_many : limit < n → sizes n m ≡ 5
   too_many h = rw (lt-leb n limit h)
 
-  wrong_buffer : n ≤ limit → (m ≡ 8 * n → ⊥) → sizes n m ≡ 6
+  pub wrong_buffer : n ≤ limit → (m ≡ 8 * n → ⊥) → sizes n m ≡ 6
   wrong_buffer h e = rw (le-leb n limit h, ne_eqb m (8 * n) e)
 
-  fitting : n ≤ limit → m ≡ 8 * n → sizes n m ≡ 0
+  pub fitting : n ≤ limit → m ≡ 8 * n → sizes n m ≡ 0
   fitting h e = rw (le-leb n limit h, eq-eqb m (8 * n) e)
 
 module _ (n : ℕ) (bs : List ℕ) (h : n ≤ limit) (e : length bs ≡ 8 * n) where

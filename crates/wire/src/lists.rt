@@ -50,6 +50,7 @@ fn read_all(bytes: &[u8], words: &mut [u64])
 }
 
 // Writes the words into a buffer of exactly 8 bytes for each.
+#[tactic(auto, using(crate::proofs::Outcomes::too_many, crate::proofs::Outcomes::wrong_buffer, crate::proofs::Outcomes::fitting))]
 pub fn encode(words: &[u64], bytes: &mut [u8]) -> Coded
     ensures { Encoded words.now bytes.old bytes.new result }
 {

@@ -10,6 +10,7 @@ use super::constants::{NEG_ORDER, ORDER_U64};
 use std::num::{wrapping_add_u64, wrapping_sub_u64};
 
 // x + y, less P the fewest times (0, 1 or 2) that bring it below 2^64.
+#[tactic(auto, using(crate::proofs::Returns::sum_within, crate::proofs::Returns::sum_wrapped, crate::proofs::Returns::sum_wrapped_twice))]
 pub fn add(x: u64, y: u64) -> u64
     ensures { Held (add_word x y) ((x + y) % P) result }
 {
@@ -26,6 +27,7 @@ pub fn add(x: u64, y: u64) -> u64
 }
 
 // x - y, plus P the fewest times (0, 1 or 2) that bring it to 0 or more.
+#[tactic(auto, using(crate::proofs::Returns::sub_within, crate::proofs::Returns::sub_once_more, crate::proofs::Returns::sub_twice_more, crate::proofs::Returns::sub_element))]
 pub fn sub(x: u64, y: u64) -> u64
     ensures { Held (sub_word x y) ((x + (P - 1) * y) % P) result }
 {
@@ -52,6 +54,7 @@ pub fn neg(x: u64) -> u64
 const HALF_P_PLUS_1: u64 = 0x7FFF_FFFF_8000_0001;
 
 // x / 2 if the word is even, else (x + P) / 2.
+#[tactic(auto, using(crate::proofs::Returns::half_of_even, crate::proofs::Returns::half_of_odd))]
 pub fn halve(x: u64) -> u64
     ensures { Held (halve_word x) (x * half % P) result }
 {

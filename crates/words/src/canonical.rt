@@ -8,6 +8,7 @@ ghost use Rattle.words.specs.Orders.{order};
 use super::constants::ORDER_U64;
 
 // x if it is below P, else x - P.
+#[tactic(auto, using(crate::proofs::Returns::canonical_above, crate::proofs::Returns::canonical_below))]
 pub fn as_canonical_u64(x: u64) -> u64
     ensures { Held (canonical x) (x % P) result }
 {
