@@ -1,4 +1,4 @@
--- No second result, word or index by reference, or lent buffer fits the contract of an exported function: `X-out` for each operation X, in document 01's
+-- No second result, word or index by reference, or lent buffer fits the contract of an exported function: `X_out` for each operation X, in document 01's
 -- order. What `Fixes` reads off a call is all that goes out of it. Where the contract is the operation's own this is the operation's theorem, of
 -- Determined.antt of `calls`; where it is `Handed`, what goes out is made of the operation's answer, and of that there is one.
 use mathlib.Core.Path.{◌≡◌, sym, ap, ap₂, ◌∙◌}
