@@ -4,7 +4,7 @@ use Rattle.sums.proofs.Dots.{starts, turn_high, turn, high_end, folded}
 use Rattle.sums.proofs.dot.folded_dot.Goals as goal
 
 pub loop-i-init : goal.loop-i-init
-loop-i-init c = starts _ _ c.shared_slice_known-1.given c.shared_slice_known-2-1.given (search rules) (search rules)
+loop-i-init c = starts _ _ (search rules) (search rules) (search rules) (search rules)
 
 pub overflow_add-high : goal.overflow_add-high
 overflow_add-high c =
