@@ -4,7 +4,7 @@ use mathlib.Core.Bool.{Bool, true, false, true≢false, false≢true}
 use Prim.Native.Nat.{ℕ, ◌%◌, ◌^◌, ◌<◌}
 use Rattle.prime.specs.Modulus.{P}
 use Rattle.answers.specs.declared.refusals.Refusal.{Refusal}
-use Rattle.answers.specs.declared.replies.Answer.TheVariants.{Word, Refused}
+use Rattle.std.specs.Prelude.{Ok, Err}
 use Rattle.answers.specs.Answers.{number}
 use Rattle.answers.specs.Promises.{Held, Answered}
 
@@ -30,10 +30,10 @@ pub through : (f : ℕ → ℕ) {r a w : ℕ} → a ≡ w → r ≡ f a → r �
 through f e g = g ∙ ap f e
 
 -- an answer that is given, and one that is refused
-pub granted : (t : Bool) {n w e v : ℕ} → t ≡ true → v ≡ w → Stands e w → Answered t n w e (Word v)
+pub granted : (t : Bool) {n w e v : ℕ} → t ≡ true → v ≡ w → Stands e w → Answered t n w e (Ok v)
 granted true {v = v} h f s = record { refusal = refl; word = f; element = (held f s).element }
 granted false h f s = absurd (false≢true h)
 
-pub refused : (t : Bool) {w e : ℕ} (r : Refusal) → t ≡ false → Answered t (number r) w e (Refused r)
+pub refused : (t : Bool) {w e : ℕ} (r : Refusal) → t ≡ false → Answered t (number r) w e (Err r)
 refused true r h = absurd (true≢false h)
 refused false r h = record { refusal = refl; word = refl; element = refl }

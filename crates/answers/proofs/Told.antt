@@ -7,11 +7,8 @@ use native.Mathlib.Omega.{arith}
 use lib.ListN.{get_or}
 use Rattle.answers.specs.declared.refusals.Refusal.{Refusal}
 use Rattle.answers.specs.declared.refusals.Refusal.TheVariants.{OutOfRange, InverseOfZero, NoSquareRoot, LengthsDiffer, TooMany, WrongLength, Above32, Unreadable}
-use Rattle.answers.specs.declared.replies.Answer.{Answer}
-use Rattle.answers.specs.declared.replies.Answer.TheVariants.{Word, Refused}
-use Rattle.answers.specs.declared.replies.Coded.{Coded}
-use Rattle.answers.specs.declared.replies.Coded.TheVariants.{Done, Refused as RefusedAt}
-use Rattle.answers.specs.Answers.{number, refusal_of, word_of, coded_refusal, index_of}
+use Rattle.std.specs.Prelude.{Ok, Err}
+use Rattle.answers.specs.Answers.{number, Answer, refusal_of, word_of, Coded, coded_refusal, index_of}
 use Rattle.answers.specs.Promises.{Answered}
 
 refusals : List Refusal
@@ -35,31 +32,31 @@ numbered_is z f Above32 = refl
 numbered_is z f Unreadable = refl
 
 pub told : ℕ → ℕ → Answer
-told n w = numbered (Word w) Refused n
+told n w = numbered (Ok w) Err n
 
 pub told_is : (r : Answer) → r ≡ told (refusal_of r) (word_of r)
 unfolding told numbered
-told_is (Word w) = refl
-told_is (Refused r) = numbered_is (Word 0) Refused r
+told_is (Ok w) = refl
+told_is (Err r) = numbered_is (Ok 0) Err r
 
 pub told_by : {t : Bool} {n w e : ℕ} {r : Answer} → Answered t n w e r → r ≡ told (cond t 0 n) (cond t w 0)
 told_by {r = r} h = told_is r ∙ ap₂ told h.refusal h.word
 
 -- the answer itself, by the test
-pub answered_is : (t : Bool) (k : Refusal) {w e : ℕ} {r : Answer} → Answered t (number k) w e r → r ≡ cond t (Word w) (Refused k)
+pub answered_is : (t : Bool) (k : Refusal) {w e : ℕ} {r : Answer} → Answered t (number k) w e r → r ≡ cond t (Ok w) (Err k)
 unfolding told numbered
 answered_is true k h = told_by h
-answered_is false k h = told_by h ∙ sym (numbered_is (Word 0) Refused k)
+answered_is false k h = told_by h ∙ sym (numbered_is (Ok 0) Err k)
 
 -- ---- and so is what coding answers
 
 pub coded : ℕ → ℕ → Coded
-coded n i = numbered Done (λ r. RefusedAt r i) n
+coded n i = numbered (Ok tt) (λ r. Err (record { refusal = r; index = i })) n
 
 pub coded_is : (r : Coded) → r ≡ coded (coded_refusal r) (index_of r)
 unfolding coded numbered
-coded_is Done = refl
-coded_is (RefusedAt r i) = numbered_is Done (λ r. RefusedAt r i) r
+coded_is (Ok u) = refl
+coded_is (Err e) = numbered_is (Ok tt) (λ r. Err (record { refusal = r; index = e.index })) e.refusal
 
 -- ---- a refusal's number has at most two digits: the papers' numbers grow with the requests, and this bound is for all of them
 

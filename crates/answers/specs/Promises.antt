@@ -1,8 +1,7 @@
 -- What the contracts promise of an answer, each under its name.
 use Rattle.std.specs.Prelude.{◌≡◌, Bool, cond, ℕ, ◌%◌}
 use Rattle.prime.specs.Modulus.{P}
-use Rattle.answers.specs.declared.replies.Answer.{Answer}
-use Rattle.answers.specs.Answers.{refusal_of, word_of}
+use Rattle.answers.specs.Answers.{Answer, refusal_of, word_of}
 
 -- The word r is w, and stands for the element e.
 pub record Held (w e r : ℕ) : Type 0 where

@@ -1,13 +1,10 @@
-// What an operation answers that may refuse. The Rust has `Option`; here each refusal has its name and its number, in one table for all crates.
+// What an operation says that may refuse. As in the Rust it answers a `Result`; here each refusal has its name and its number, in one table for all crates.
 #![tactic(auto)]
 
 mod refusals;
-mod replies;
 
-// The papers' refusals, with their numbers.
+// The papers' refusals, with their numbers; the error of whatever answers a word.
 pub use refusals::Refusal;
 
-// A word or a refusal.
-pub use replies::Answer;
-// Done, or a refusal with an index beside it.
-pub use replies::Coded;
+// A refusal with an index beside it; the error of coding.
+pub use refusals::RefusedAt;

@@ -8,11 +8,11 @@ use lib.ListN.{length}
 use Rattle.words.specs.Words.{canonical, add_word, sub_word, neg_word, reduce_word, mul_word, halve_word, from_i64_word, from_u128_word}
 use Rattle.shifts.specs.Shifts.{shift_up_word, shift_down_word}
 use Rattle.words.specs.Orders.{order}
-use Rattle.words.specs.declared.canonical.Ordering.{Ordering}
-use Rattle.answers.specs.declared.replies.Answer.{Answer}
+use Rattle.std.specs.declared.cmp.Ordering.{Ordering}
+use Rattle.answers.specs.Answers.{Answer}
 use Rattle.answers.specs.Promises.{Answered}
 use Rattle.roots.specs.Roots.{seventh_word}
-use Rattle.answers.specs.declared.replies.Coded.{Coded}
+use Rattle.answers.specs.Answers.{Coded}
 use Rattle.wire.specs.Refusals.{sizes}
 use Rattle.answers.specs.Answers.{coded_refusal, index_of}
 use Rattle.wire.specs.Promises.{Encoded}

@@ -10,12 +10,12 @@ use Rattle.prime.specs.Modulus.{P, seventh}
 use Rattle.prime.proofs.Theorems.{inverse_power, power_of_root}
 use Rattle.answers.specs.declared.refusals.Refusal.{Refusal}
 use Rattle.answers.specs.declared.refusals.Refusal.TheVariants.{InverseOfZero, NoSquareRoot, LengthsDiffer, TooMany, WrongLength, Above32}
-use Rattle.answers.specs.declared.replies.Answer.{Answer}
-use Rattle.answers.specs.declared.replies.Answer.TheVariants.{Word, Refused}
+use Rattle.answers.specs.Answers.{Answer}
+use Rattle.std.specs.Prelude.{Ok, Err}
 use Rattle.answers.specs.Answers.{number, coded_refusal, index_of, kept}
 use Rattle.answers.specs.Promises.{Answered}
-use Rattle.answers.specs.declared.replies.Coded.{Coded}
-use Rattle.answers.specs.declared.replies.Coded.TheVariants.{Done, Refused as RefusedAt}
+use Rattle.answers.specs.Answers.{Coded}
+use Rattle.std.specs.Prelude.{Ok, Err}
 use Rattle.answers.proofs.Stands.{Stands, held as held_by, granted, refused}
 use Rattle.words.specs.Orders.{order}
 use Rattle.words.proofs.Laws.{seen as seen_by, canonical_stands, add_stands, sub_stands, neg_stands, reduce_stands, mul_stands, halve_stands, from_u128_stands, slot_stands}
@@ -42,28 +42,28 @@ use Rattle.calls.proofs.Contracts.{replied_is, filled}
 -- ---- an answer for each promise that may refuse
 
 reply : (t : Bool) (f : Refusal) {w e : ℕ} → (t ≡ true → Stands e w) → (r : Answer) × Answered t (number f) w e r
-reply true f {w} s = (Word w, granted true refl refl (s refl))
-reply false f s = (Refused f, refused false f refl)
+reply true f {w} s = (Ok w, granted true refl refl (s refl))
+reply false f s = (Err f, refused false f refl)
 
 reply_dot : (t u : Bool) {w e : ℕ} → (t ≡ true → u ≡ true → Stands e w)
     → (r : Answer) × Answered (eqb (cond t (cond u 0 5) 4) 0) (cond t (cond u 0 5) 4) w e r
-reply_dot true true {w} s = (Word w, granted true refl refl (s refl refl))
-reply_dot true false s = (Refused TooMany, refused false TooMany refl)
-reply_dot false u s = (Refused LengthsDiffer, refused false LengthsDiffer refl)
+reply_dot true true {w} s = (Ok w, granted true refl refl (s refl refl))
+reply_dot true false s = (Err TooMany, refused false TooMany refl)
+reply_dot false u s = (Err LengthsDiffer, refused false LengthsDiffer refl)
 
 invert : (x : ℕ) (z : Bool) → eqb (x % P) 0 ≡ z → (r : Answer) × Inverted x r
-invert x true e = (Refused InverseOfZero, not_inverted x e)
-invert x false e = (Word (inverse_word x), record { answered = granted _ (ap not e) refl (power_stands x (P - 2)); product = inverse_power x })
+invert x true e = (Err InverseOfZero, not_inverted x e)
+invert x false e = (Ok (inverse_word x), record { answered = granted _ (ap not e) refl (power_stands x (P - 2)); product = inverse_power x })
 
 take_root : (x : ℕ) (q : Bool) → is_square x ≡ q → (r : Answer) × Rooted x r
 take_root x true e =
-    let q = (is_square_lem x).0 e in (Word (root_word x), rooted x (root_word x) refl (rw (root_first x q) (first_squares x q)))
-take_root x false e = (Refused NoSquareRoot, unrooted x (λ q. false≢true (sym e ∙ (is_square_lem x).1 q)))
+    let q = (is_square_lem x).0 e in (Ok (root_word x), rooted x (root_word x) refl (rw (root_first x q) (first_squares x q)))
+take_root x false e = (Err NoSquareRoot, unrooted x (λ q. false≢true (sym e ∙ (is_square_lem x).1 q)))
 
 coding : (t u : Bool) → (r : Coded) × (coded_refusal r ≡ cond t (cond u 0 6) 5) × (index_of r ≡ 0)
-coding true true = (Done, refl, refl)
-coding true false = (RefusedAt WrongLength 0, refl, refl)
-coding false u = (RefusedAt TooMany 0, refl, refl)
+coding true true = (Ok tt, refl, refl)
+coding true false = (Err (record { refusal = WrongLength; index = 0 }), refl, refl)
+coding false u = (Err (record { refusal = TooMany; index = 0 }), refl, refl)
 
 code : (ws before : List ℕ) → (r : Coded) × (after : List ℕ) × Encoded ws before after r
 code ws before =

@@ -1,7 +1,7 @@
 -- The outcomes that the functions' own contracts allow for a call. `X.Learnt` is the contract of the function X as the kit hands it to X's callers: of
 -- lifetimes k, arguments a, answer r, and what the parameters hold at exit, t.
 use Rattle.std.specs.Prelude.{◌≡◌, true, [], ◌∷◌, map, ℕ}
-use Rattle.answers.specs.declared.replies.Answer.{Answer}
+use Rattle.answers.specs.Answers.{Answer}
 use Rattle.answers.specs.Answers.{refusal_of, word_of, coded_refusal, index_of}
 use Rattle.goldilocks.proofs.add.Reads as fn_add
 use Rattle.goldilocks.proofs.sub.Reads as fn_sub

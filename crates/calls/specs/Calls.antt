@@ -2,7 +2,7 @@
 use Rattle.std.specs.Prelude.{Bool, cond, List, [], ◌∷◌, ℕ, ℤ}
 use Rattle.std.specs.Int.{w64}
 use Rattle.std.proofs.Common.{SFits}
-use Rattle.words.specs.declared.canonical.Ordering.{Ordering}
+use Rattle.std.specs.declared.cmp.Ordering.{Ordering}
 use Rattle.sequence.specs.Outcomes.{Outcome}
 
 -- A call names its words by their places among starting words and earlier results. Bit counts, exponents, signed numbers and what a lent buffer held

@@ -5,19 +5,16 @@
 // fails, it stops, standard error says why, and the exit status is not 0.
 #![tactic(auto)]
 
-ghost use Rattle.std.specs.Prelude.{◌≡◌, ◌*◌, ◌≤◌, length};
-ghost use Rattle.std.specs.Counts.{IsPrefixLen};
-ghost use Rattle.desk_line.specs.Promises.{Feeds};
-
-use desk_line::{Desk, Fed};
+use desk_line::Desk;
 use std::io;
 use std::io::{Read, Write};
 
-// The desk after a turn, and whether there may be more to read.
-#[derive(Clone, Copy)]
-struct Progress {
+// The desk, room for a piece of the input, and room for the replies to it: 17 bytes for each of its bytes.
+#[derive(Drop)]
+struct Session {
     desk: Desk,
-    more: bool,
+    piece: [u8; 4096],
+    out: [u8; 69632],
 }
 
 // Writes all of the bytes at once: whoever types a line waits for its reply.
@@ -26,81 +23,42 @@ fn write<W: Write>(writer: &mut W, bytes: &[u8]) -> io::Result<()> {
     writer.flush()
 }
 
-// Feeds the desk all of a piece, since each byte of it has 17 bytes of room. What is counted as written is there.
-fn feed_all(desk: Desk, piece: &[u8], out: &mut [u8]) -> Fed
-    requires { 17 * length piece.now ≤ length out.old }
-    ensures feeds { Feeds desk piece.now out.old out.new result }
-    ensures taken_value { (result.taken ≡ length piece.now) × IsPrefixLen result.written out.new }
-{
-    desk.feed(piece, out)
-}
-
-// Reads once and replies to what came; at the end of the input, to the last line.
-fn turn<R: Read, W: Write>(
-    reader: &mut R,
-    writer: &mut W,
-    desk: Desk,
-    piece: &mut [u8],
-    out: &mut [u8],
-) -> io::Result<Progress>
-    requires { (length piece.old ≡ 4096) × (length out.old ≡ 69632) }
-    ensures { (length piece.new ≡ 4096) × (length out.new ≡ 69632) }
-{
-    let n = reader.read(piece)?;
-    if n == 0 {
-        let last = desk.finish();
-        let text = last.text;
-        let len = last.len;
-        write(writer, &text[..len])?;
-        return Ok(Progress { desk, more: false });
-    }
-    let fed = feed_all(desk, &piece[..n], out);
-    let written = fed.written;
-    write(writer, &out[..written])?;
-    let next = fed.desk;
-    Ok(Progress {
-        desk: next,
-        more: true,
-    })
-}
-
-// Takes turns to the end of the input. A proved loop has to end, and nothing says that an input does: this one takes no more turns than a
-// number that no run uses up.
-fn run<R: Read, W: Write>(
-    reader: &mut R,
-    writer: &mut W,
-    piece: &mut [u8],
-    out: &mut [u8],
-) -> io::Result<()>
-    requires { (length piece.old ≡ 4096) × (length out.old ≡ 69632) }
-{
-    let mut desk = Desk::new();
-    for _ in 0..u64::MAX {
-        let done = turn(reader, writer, desk, piece, out)?;
-        if !done.more {
-            return Ok(());
+impl Session {
+    // The session before any input.
+    fn new() -> Self {
+        Session {
+            desk: Desk::new(),
+            piece: [0; 4096],
+            out: [0; 69632],
         }
-        desk = done.desk;
     }
-    Ok(())
-}
 
-// Room for a piece of the input.
-fn piece_room() -> [u8; 4096]
-    ensures { 4096 ≡ length result }
-{
-    [0; 4096]
-}
+    // Reads once and replies to what came; at the end of the input, to the last line. Says whether there may be more to read.
+    fn turn<R: Read, W: Write>(&mut self, reader: &mut R, writer: &mut W) -> io::Result<bool> {
+        let n = reader.read(&mut self.piece)?;
+        if n == 0 {
+            write(writer, &self.desk.finish())?;
+            return Ok(false);
+        }
+        let fed = self.desk.feed(&self.piece[..n], &mut self.out);
+        // The piece is taken whole, since each byte of it has its 17 bytes of room.
+        prove_eq!(fed.taken, n);
+        write(writer, &self.out[..fed.written])?;
+        Ok(true)
+    }
 
-// Room for the replies to 4,096 bytes, 17 for each.
-fn room() -> [u8; 69632]
-    ensures { 69632 ≡ length result }
-{
-    [0; 69632]
+    // Takes turns to the end of the input. A proved loop has to end, and nothing says that an input does: this one takes no more turns than a
+    // number that no run uses up.
+    fn run<R: Read, W: Write>(&mut self, reader: &mut R, writer: &mut W) -> io::Result<()> {
+        for _ in 0..u64::MAX {
+            if !self.turn(reader, writer)? {
+                return Ok(());
+            }
+        }
+        Ok(())
+    }
 }
 
 fn main(rt: HostRuntime) -> io::Result<()> {
-    let mut piece = piece_room();
-    let mut out = room();
-    run(&mut rt.stdin(), &mut rt.stdout(), &mut piece, &mut out)
+    Session::new().run(&mut rt.stdin(), &mut rt.stdout())
 }

@@ -7,15 +7,15 @@ use native.Mathlib.Omega.{arith}
 use lib.Dec.{eqb}
 use lib.ListN.{length, length-append}
 use Rattle.prime.proofs.Choice.{by_eq}
-use Rattle.answers.specs.declared.replies.Answer.{Answer}
-use Rattle.answers.specs.declared.replies.Answer.TheVariants.{Word, Refused}
+use Rattle.answers.specs.Answers.{Answer}
+use Rattle.std.specs.Prelude.{Ok, Err}
 use Rattle.answers.specs.Answers.{number}
 use Rattle.text.specs.Digits.{hex}
 use Rattle.text.specs.Decimals.{decimal}
 use Rattle.text.proofs.DigitLaws.{length_digits}
 use Rattle.desk_line.specs.declared.desk.Desk.{Desk}
 use Rattle.desk_line.specs.Replies.{answer_to, reply, text}
-use Rattle.desk_line.specs.Pieces.{begun, step, after, written}
+use Rattle.desk_line.specs.Pieces.{step, after, written}
 use Rattle.desk_line.proofs.Numbers.{number_length}
 
 pub after_append : (d : Desk) (a b : List ℕ) → after d (a ++ b) ≡ after (after d a) b
@@ -30,15 +30,15 @@ written_append d (x ∷ a) b = rw (written_append (step d x) a b, append_assoc)
 
 pub text_length : (a : Answer) → length (text a) ≤ 17
 unfolding text
-text_length (Word w) = omega (arith, length-append (hex 16 w) (10 ∷ []), length_digits 16 16 w)
-text_length (Refused r) = omega (arith, length-append (decimal (number r)) (10 ∷ []), number_length r)
+text_length (Ok w) = omega (arith, length-append (hex 16 w) (10 ∷ []), length_digits 16 16 w)
+text_length (Err r) = omega (arith, length-append (decimal (number r)) (10 ∷ []), number_length r)
 
 -- what a single byte is answered by
-byte_length : (d : Desk) (b : ℕ) → length (cond (eqb b 10) (reply (begun d)) []) ≤ 17
-byte_length d b = by_eq (λ (l : List ℕ). length l ≤ 17) b 10 (λ e. text_length (answer_to (begun d))) (λ e. omega arith)
+byte_length : (d : Desk) (b : ℕ) → length (cond (eqb b 10) (reply d) []) ≤ 17
+byte_length d b = by_eq (λ (l : List ℕ). length l ≤ 17) b 10 (λ e. text_length (answer_to d)) (λ e. omega arith)
 
 pub written_length : (d : Desk) (piece : List ℕ) → length (written d piece) ≤ 17 * length piece
 unfolding written
 written_length d [] = omega arith
 written_length d (b ∷ piece) =
-    omega (arith, length-append (cond (eqb b 10) (reply (begun d)) []) (written (step d b) piece), byte_length d b, written_length (step d b) piece)
+    omega (arith, length-append (cond (eqb b 10) (reply d) []) (written (step d b) piece), byte_length d b, written_length (step d b) piece)

@@ -1,24 +1,21 @@
 -- Feeding a piece byte by byte: what stands in the lent buffer, and what is kept, after its first i bytes.
 use mathlib.Core.Path.{◌≡◌, refl, sym, ap, ◌∙◌}
 use mathlib.Core.Bool.{cond}
-use mathlib.Core.List.{List, [], ◌++◌, append_assoc, append-nil}
-use Prim.Native.Nat.{ℕ, ◌+◌, ◌*◌, ◌/◌, ◌<◌, ◌≤◌, min}
+use mathlib.Core.List.{List, [], ◌∷◌, ◌++◌, append_assoc, append-nil}
+use Prim.Native.Nat.{ℕ, ◌+◌, ◌*◌, ◌<◌, ◌≤◌}
 use native.Mathlib.Numerals.{add-one}
 use native.Mathlib.Omega.{arith}
-use borrow.Author.Tests.{eq-eqb, ne_eqb, lt-ltb, le-ltb}
+use borrow.Author.Tests.{eq-eqb, ne_eqb}
 use lib.Dec.{eqb}
-use lib.ListN.{length, get_or, take, drop, set, length-append, length-set}
-use lib.Seq.{paste, take-suc, take_at, drop_at, drop-drop, length-paste}
+use lib.ListN.{length, get_or, take, drop, length-append, length-take}
+use lib.Seq.{take-suc, take_at, drop_at, drop-drop}
+use Rattle.std.proofs.lemmas.List.{get_or-take}
+use borrow.Rule.Slice.PartMut.{put_mid}
+use Rattle.prime.proofs.Choice.{by_lt}
 use Rattle.desk_line.specs.declared.desk.Desk.{Desk}
-use Rattle.desk_line.specs.declared.replies.Reply.{Reply}
 use Rattle.desk_line.specs.Replies.{answer_to, reply}
-use Rattle.desk_line.specs.Pieces.{begun, step, after, written}
-use Rattle.desk_line.specs.Promises.{Says, Feeds}
-use Rattle.desk_line.proofs.Counts.{says_fits}
+use Rattle.desk_line.specs.Pieces.{step, after, written}
 use Rattle.desk_line.proofs.Cutting.{after_append, written_append, text_length}
-
-pub reply_fits : (line : List ℕ) {r : Reply} → Says (reply line) r → (r.len ≤ 17) × (r.len ≤ length r.text)
-reply_fits line s = (omega (arith, s.count, text_length (answer_to line)), says_fits s)
 
 -- after i bytes the desk d has become e, and n bytes stand in front of the buffer, which was lent as `before`
 pub record Feeding (d : Desk) (piece before : List ℕ) (i : ℕ) (e : Desk) (n : ℕ) (out : List ℕ) : Type 0 where
@@ -26,57 +23,51 @@ pub record Feeding (d : Desk) (piece before : List ℕ) (i : ℕ) (e : Desk) (n 
   pub count : n ≡ length (written d (take i piece))
   pub bytes : out ≡ written d (take i piece) ++ drop n before
   pub room : n ≤ 17 * i
-  pub lent : length out ≡ length before
-  pub kept : length e.line ≡ 64
 
-pub feeding_none : (d : Desk) (piece before : List ℕ) → length d.line ≡ 64 → Feeding d piece before 0 d 0 before
+pub feeding_none : (d : Desk) (piece before : List ℕ) → Feeding d piece before 0 d 0 before
 unfolding after written
-feeding_none d piece before l = record { desk = refl; count = refl; bytes = refl; room = omega arith; lent = refl; kept = l }
+feeding_none d piece before = record { desk = refl; count = refl; bytes = refl; room = omega arith }
 
-module _ {d e : Desk} {piece before out : List ℕ} {i n : ℕ} (h : i < length piece) (f : Feeding d piece before i e n out) where
-  desk_next : step e (get_or piece i 0) ≡ after d (take (i + 1) piece)
+-- the next byte is that of the first t bytes
+module _ (t : ℕ) {d e : Desk} {piece before out : List ℕ} {i n : ℕ} (h : i < length (take t piece)) (f : Feeding d piece before i e n out) where
+  next : take (i + 1) piece ≡ take i piece ++ (get_or (take t piece) i 0 ∷ [])
+  next =
+      let l : i < t = omega (arith, length-take t piece) in
+      rw (add-one i, take-suc piece i 0 (omega (arith, length-take t piece)), get_or-take t piece i 0 l) refl
+
+  desk_next : step e (get_or (take t piece) i 0) ≡ after d (take (i + 1) piece)
   unfolding after
-  desk_next = rw (add-one i, take-suc piece i 0 h, after_append, f.desk) refl
+  desk_next = rw (next, after_append, f.desk) refl
 
-  written_next : written d (take (i + 1) piece) ≡ written d (take i piece) ++ cond (eqb (get_or piece i 0) 10) (reply (begun e)) []
+  written_next : written d (take (i + 1) piece) ≡ written d (take i piece) ++ cond (eqb (get_or (take t piece) i 0) 10) (reply e) []
   unfolding written
-  written_next = rw (add-one i, take-suc piece i 0 h, written_append, append-nil, f.desk) refl
+  written_next = rw (next, written_append, append-nil, f.desk) refl
 
-  -- the next byte ends the line, whose reply is put behind the others
-  pub line_fed : {r : Reply} {o : List ℕ} → get_or piece i 0 ≡ 10 → Says (reply (begun e)) r → 17 * (i + 1) ≤ length before
-      → o ≡ paste out n r.text r.len → Feeding d piece before (i + 1) (record { line = e.line; len = 0 }) (n + r.len) o
+  -- it ends the line, whose reply is put behind the others
+  pub line_fed : {x : Desk} {r : List ℕ} {m k : ℕ} → get_or (take t piece) i 0 ≡ 10 → x ≡ [] → r ≡ reply e → m ≡ length r → k ≡ length r
+      → Feeding d piece before (i + 1) x (n + m) (put_mid n k out r)
   unfolding step
-  line_fed {r} q s l p =
-      let t = reply (begun e) in
+  line_fed {r = r} {m} {k} q b s c j =
       let w = written d (take i piece) in
-      let c = reply_fits (begun e) s in
       let a : take n out ≡ w = rw f.bytes (take_at w (drop n before) n (sym f.count)) in
-      let b : take r.len r.text ≡ t = rw s.bytes (take_at t _ r.len (sym s.count)) in
       let g : drop n out ≡ drop n before = rw f.bytes (drop_at w (drop n before) n (sym f.count)) in
+      let p : written d (take (i + 1) piece) ≡ w ++ r = rw (written_next, eq-eqb _ _ q, s) refl in
       record {
-        desk = rw (eq-eqb _ _ q) at desk_next;
-        count = rw (written_next, eq-eqb _ _ q, length-append) (omega arith);
-        bytes = p ∙ rw (← drop-drop r.len n out, a, b, g, drop-drop, written_next, eq-eqb _ _ q, append_assoc) refl;
-        room = omega arith;
-        lent = ap length p ∙ length-paste out n r.text r.len (omega arith) c.1 ∙ f.lent;
-        kept = f.kept;
+        desk = b ∙ (rw (eq-eqb _ _ q) at desk_next);
+        count = rw (p, length-append) (omega arith);
+        bytes = rw (p, append_assoc, a, j, c, g, drop-drop) refl;
+        room = omega (arith, ap length s, text_length (answer_to e));
       }
 
   -- it does not, and nothing is written
-  byte_fed : {x : Desk} → (get_or piece i 0 ≡ 10 → ⊥) → x ≡ step e (get_or piece i 0) → length x.line ≡ 64 → Feeding d piece before (i + 1) x n out
-  byte_fed q s l =
+  pub byte_fed : {x : Desk} → (get_or (take t piece) i 0 ≡ 10 → ⊥) → x ≡ step e (get_or (take t piece) i 0) → Feeding d piece before (i + 1) x n out
+  byte_fed q s =
       let w : written d (take (i + 1) piece) ≡ written d (take i piece) = rw (written_next, ne_eqb _ _ q, append-nil) refl in
-      record { desk = s ∙ desk_next; count = rw w f.count; bytes = rw w f.bytes; room = omega arith; lent = f.lent; kept = l }
+      record { desk = s ∙ desk_next; count = rw w f.count; bytes = rw w f.bytes; room = omega arith }
 
-  pub byte_kept : (get_or piece i 0 ≡ 10 → ⊥) → e.len < 64
-      → Feeding d piece before (i + 1) (record { line = set e.line e.len (get_or piece i 0); len = e.len + 1 }) n out
+  -- it is kept while there is room
+  pub byte_kept : {x : Desk} → (get_or (take t piece) i 0 ≡ 10 → ⊥) → (length e < 64 → x ≡ e ++ (get_or (take t piece) i 0 ∷ [])) → (64 ≤ length e → x ≡ e)
+      → Feeding d piece before (i + 1) x n out
   unfolding step
-  byte_kept q l = byte_fed q (rw (ne_eqb _ _ q, lt-ltb _ _ l) refl) (length-set e.line e.len _ ∙ f.kept)
-
-  pub byte_lost : (get_or piece i 0 ≡ 10 → ⊥) → 64 ≤ e.len → Feeding d piece before (i + 1) e n out
-  unfolding step
-  byte_lost q l = byte_fed q (rw (ne_eqb _ _ q, le-ltb _ _ l) refl) f.kept
-
-pub fed_all : {d e : Desk} {piece before out : List ℕ} {n i t : ℕ} → t ≡ min (length piece) (length before / 17) → i ≡ t
-    → Feeding d piece before i e n out → Feeds d piece before out (record { desk = e; taken = t; written = n })
-fed_all p q g = let f = rw q at g in record { taken = p; desk = f.desk; count = f.count; bytes = f.bytes }
+  byte_kept {x} q k l =
+      byte_fed q (rw (ne_eqb _ _ q) (by_lt (λ (y : Desk). x ≡ y) (length e) 64 {u = e ++ (get_or (take t piece) i 0 ∷ [])} {v = e} k l))

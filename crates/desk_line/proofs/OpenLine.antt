@@ -3,17 +3,16 @@
 use mathlib.Core.Path.{◌≡◌, refl, sym, ap, ◌∙◌}
 use mathlib.Core.Bool.{Bool, true, false, cond}
 use mathlib.Core.List.{List, [], ◌∷◌, ◌++◌, append_assoc, flatten}
-use Prim.Native.Nat.{ℕ, ◌+◌, min}
-use native.Mathlib.Numerals.{add-one}
+use Prim.Native.Nat.{ℕ, ◌<◌, ◌≤◌}
 use native.Mathlib.Omega.{arith}
 use borrow.Author.Tests.{ne_eqb}
 use lib.Dec.{eqb, ltb}
-use lib.ListN.{length, take, set, length-append, length-set}
-use lib.Seq.{length-take-le, take_all, take-append-le, take-suc-set}
+use lib.ListN.{length, take, length-append, length-take}
+use lib.Seq.{length-take-le, take_all, take-append-le}
 use Rattle.prime.proofs.Choice.{by_lt}
 use Rattle.desk_line.specs.declared.desk.Desk.{Desk}
 use Rattle.desk_line.specs.Replies.{answer_to, reply, replies_from}
-use Rattle.desk_line.specs.Pieces.{fresh, begun, step, after, written, last, spoken}
+use Rattle.desk_line.specs.Pieces.{fresh, step, after, written, last, spoken}
 use Rattle.desk_line.proofs.Cutting.{after_append, written_append}
 use Rattle.desk_line.proofs.Shapes.{unreadable_long}
 
@@ -26,44 +25,33 @@ answer_front l =
 -- ---- what the desk keeps of the open line
 
 pub record Keeps (d : Desk) (l : List ℕ) : Type 0 where
-  pub room : length d.line ≡ 64
-  pub count : d.len ≡ min 64 (length l)
-  pub front : begun d ≡ take 64 l
+  pub front : d ≡ take 64 l
 
 pub keeps_fresh : Keeps fresh []
-keeps_fresh = record { room = refl; count = refl; front = refl }
+keeps_fresh = record { front = refl }
 
--- the desk after a line end, and after another byte
-cleared : Desk → Desk
-cleared d = record { line = d.line; len = 0 }
-
+-- the desk after a byte that ends no line
 longer : Desk → ℕ → Desk
-longer d b = cond (ltb d.len 64) (record { line = set d.line d.len b; len = d.len + 1 }) d
+longer d b = cond (ltb (length d) 64) (d ++ (b ∷ [])) d
 
 module _ {d : Desk} {l : List ℕ} (k : Keeps d l) where
-  reply_kept : reply (begun d) ≡ reply l
+  reply_kept : reply d ≡ reply l
   reply_kept = rw (k.front, answer_front l)
-
-  keeps_cleared : Keeps (cleared d) []
-  unfolding cleared
-  keeps_cleared = record { room = k.room; count = refl; front = refl }
 
   keeps_longer : (b : ℕ) → Keeps (longer d b) (l ++ (b ∷ []))
   unfolding longer
   keeps_longer b =
-      by_lt (λ (e : Desk). Keeps e (l ++ (b ∷ []))) d.len 64
-      (λ h. record {
-        room = length-set d.line d.len b ∙ k.room;
-        count = omega (arith, length-append l (b ∷ []));
+      by_lt (λ (e : Desk). Keeps e (l ++ (b ∷ []))) (length d) 64
+      (λ h.
+      let n : length l < 64 = omega (arith, ap length k.front, length-take 64 l) in
+      record {
         front =
-            rw (add-one d.len, take-suc-set d.line d.len b (omega arith), k.front, take_all 64 l (omega arith))
-            (sym (take_all 64 (l ++ (b ∷ [])) (omega (arith, length-append l (b ∷ [])))));
+            ap (λ (t : List ℕ). t ++ (b ∷ [])) (k.front ∙ take_all 64 l (omega arith))
+            ∙ sym (take_all 64 (l ++ (b ∷ [])) (omega (arith, length-append l (b ∷ []))));
       })
-      (λ h. record {
-        room = k.room;
-        count = omega (arith, length-append l (b ∷ []));
-        front = k.front ∙ sym (take-append-le 64 l (b ∷ []) (omega arith));
-      })
+      (λ h.
+      let n : 64 ≤ length l = omega (arith, ap length k.front, length-take 64 l) in
+      record { front = k.front ∙ sym (take-append-le 64 l (b ∷ []) n) })
 
 -- ---- all that is written for an input that comes as one piece
 
@@ -77,8 +65,10 @@ spoken_ended d (p ∷ pieces) = rw (written_append, after_append, append_assoc, 
 
 last_kept : (d : Desk) (l : List ℕ) → Keeps d l → last d ≡ replies_from l []
 unfolding last replies_from
-last_kept d [] k = rw k.count
-last_kept d (b ∷ l) k = rw (ne_eqb d.len 0 (λ e. omega arith)) (reply_kept k)
+last_kept d [] k = rw k.front refl
+last_kept d (b ∷ l) k =
+    let n : length d ≡ 0 → ⊥ = λ e. omega (arith, ap length k.front, length-take 64 (b ∷ l)) in
+    rw (ne_eqb (length d) 0 n) (reply_kept k)
 
 replies_byte : (l : List ℕ) (b : ℕ) (input : List ℕ)
     → replies_from l (b ∷ input) ≡ cond (eqb b 10) (reply l ++ replies_from [] input) (replies_from (l ++ (b ∷ [])) input)
@@ -94,12 +84,12 @@ ended_byte true d e input r p q = append_assoc r (written d input) (last (after 
 ended_byte false d e input r p q = q
 
 ended_kept : (d : Desk) (l input : List ℕ) → Keeps d l → ended d input ≡ replies_from l input
-unfolding ended written after step cleared longer
+unfolding ended written after step longer
 ended_kept d l [] k = last_kept d l k
 ended_kept d l (b ∷ input) k =
     rw (replies_byte l b input, ← reply_kept k)
-    (ended_byte (eqb b 10) (cleared d) (longer d b) input (reply (begun d))
-    (ended_kept (cleared d) [] input (keeps_cleared k))
+    (ended_byte (eqb b 10) fresh (longer d b) input (reply d)
+    (ended_kept fresh [] input keeps_fresh)
     (ended_kept (longer d b) (l ++ (b ∷ [])) input (keeps_longer k b)))
 
 pub spoken_kept : (d : Desk) (l : List ℕ) (pieces : List (List ℕ)) → Keeps d l → spoken d pieces ≡ replies_from l (flatten pieces)

@@ -2,14 +2,14 @@
 -- A word on a line is read back, and a line with a rule's words behind its name is one of the seven of specs/Grammar.antt.
 use mathlib.Core.Path.{◌≡◌, refl, sym, ap, subst, ◌∙◌}
 use mathlib.Core.List.{List, [], ◌∷◌, ◌++◌, append-nil}
-use Prim.Native.Nat.{ℕ, suc, ◌%◌, ◌^◌, ◌<◌}
+use Prim.Native.Nat.{ℕ, suc, ◌-◌, ◌%◌, ◌^◌, ◌<◌}
 use native.Mathlib.Nat.{mod-eq_of_lt}
 use native.Mathlib.Omega.{arith}
 use lib.ListN.{length, take, drop, length-append, length-drop, take-append-drop}
-use lib.Seq.{append_snoc, take_at, drop_at}
+use lib.Seq.{append_snoc, take_at, take_all, drop_at}
 use Rattle.prime.proofs.Choice.{by_test}
-use Rattle.answers.specs.declared.replies.Answer.{Answer}
-use Rattle.answers.specs.declared.replies.Answer.TheVariants.{Refused}
+use Rattle.answers.specs.Answers.{Answer}
+use Rattle.std.specs.Prelude.{Err}
 use Rattle.answers.specs.declared.refusals.Refusal.TheVariants.{Unreadable}
 use Rattle.text.specs.Names.{same}
 use Rattle.text.specs.Digits.{hex, made}
@@ -17,6 +17,10 @@ use Rattle.text.proofs.NameLaws.{same_refl, same_true, same_length}
 use Rattle.text.proofs.DigitLaws.{length_digits, made_digits}
 use Rattle.desk_line.specs.Replies.{spaced, word_at, may_refuse, of_one, of_two, one, two, answer_to, add, sub, mul, neg, half, inv, root}
 use Rattle.desk_line.specs.Grammar.{Line, adds, subs, muls, negs, halves, invs, roots}
+
+-- the slice behind the first n bytes
+pub rest_all : (n : ℕ) (line : List ℕ) → take (length line - n) (drop n line) ≡ drop n line
+rest_all n line = take_all (length line - n) (drop n line) (omega (arith, length-drop n line))
 
 -- ---- a line of another length
 
@@ -40,33 +44,33 @@ one_other name rest other h =
     rw (same_length rest (spaced x) (λ e. h (e ∙ length_one x)))
 
 module _ (line : List ℕ) where
-  pub unreadable : (length line ≡ 37 → ⊥) → (length line ≡ 20 → ⊥) → (length line ≡ 21 → ⊥) → answer_to line ≡ Refused Unreadable
+  pub unreadable : (length line ≡ 37 → ⊥) → (length line ≡ 20 → ⊥) → (length line ≡ 21 → ⊥) → answer_to line ≡ Err Unreadable
   unfolding answer_to
   unreadable h i j =
       two_other (take 3 line) (drop 3 line) _ (λ e. h (omega (arith, length-drop 3 line)))
       ∙ one_other (take 3 line) (drop 3 line) _ (λ e. i (omega (arith, length-drop 3 line)))
       ∙ one_other (take 4 line) (drop 4 line) _ (λ e. j (omega (arith, length-drop 4 line)))
 
-  pub unreadable_long : 63 < length line → answer_to line ≡ Refused Unreadable
+  pub unreadable_long : 63 < length line → answer_to line ≡ Err Unreadable
   unreadable_long h = unreadable (λ e. omega arith) (λ e. omega arith) (λ e. omega arith)
 
-  pub of_37 : length line ≡ 37 → two (take 3 line) (drop 3 line) (Refused Unreadable) ≡ answer_to line
+  pub of_37 : length line ≡ 37 → two (take 3 line) (drop 3 line) (Err Unreadable) ≡ answer_to line
   unfolding answer_to
   of_37 h =
       rw (
-        one_other (take 4 line) (drop 4 line) (Refused Unreadable) (λ e. omega (arith, length-drop 4 line)),
-        one_other (take 3 line) (drop 3 line) (Refused Unreadable) (λ e. omega (arith, length-drop 3 line)),
+        one_other (take 4 line) (drop 4 line) (Err Unreadable) (λ e. omega (arith, length-drop 4 line)),
+        one_other (take 3 line) (drop 3 line) (Err Unreadable) (λ e. omega (arith, length-drop 3 line)),
       )
 
-  pub of_20 : length line ≡ 20 → one (take 3 line) (drop 3 line) (Refused Unreadable) ≡ answer_to line
+  pub of_20 : length line ≡ 20 → one (take 3 line) (drop 3 line) (Err Unreadable) ≡ answer_to line
   unfolding answer_to
   of_20 h =
       rw (
-        one_other (take 4 line) (drop 4 line) (Refused Unreadable) (λ e. omega (arith, length-drop 4 line)),
+        one_other (take 4 line) (drop 4 line) (Err Unreadable) (λ e. omega (arith, length-drop 4 line)),
         two_other (take 3 line) (drop 3 line) _ (λ e. omega (arith, length-drop 3 line)),
       )
 
-  pub of_21 : length line ≡ 21 → one (take 4 line) (drop 4 line) (Refused Unreadable) ≡ answer_to line
+  pub of_21 : length line ≡ 21 → one (take 4 line) (drop 4 line) (Err Unreadable) ≡ answer_to line
   unfolding answer_to
   of_21 h =
       rw (
@@ -104,7 +108,7 @@ one_reads name other x h = rw (last_digits [] 0 x refl, mod-eq_of_lt h, same_ref
 
 -- the answer a, if it is not `refused 8`, is to one of the seven lines
 abbrev pub Reads : List ℕ → Answer → Type 0
-Reads line a = (a ≡ Refused Unreadable → ⊥) → Line line
+Reads line a = (a ≡ Err Unreadable → ⊥) → Line line
 
 two_name : (name : List ℕ) (x y : ℕ) → x < 2 ^ 64 → y < 2 ^ 64 → Reads (name ++ (spaced x ++ spaced y)) (of_two name x y)
 unfolding of_two

@@ -1,8 +1,8 @@
 -- 01, "The desk tool", whole and in one place: the bytes that answer any bytes. How digits, names and numbers are written is the crate text's.
 use Rattle.std.specs.Prelude.{cond, List, [], ◌∷◌, ◌++◌, ℕ, suc, ◌%◌, ◌==◌, take, drop}
 use Rattle.prime.specs.Modulus.{P}
-use Rattle.answers.specs.declared.replies.Answer.{Answer}
-use Rattle.answers.specs.declared.replies.Answer.TheVariants.{Word, Refused}
+use Rattle.answers.specs.Answers.{Answer}
+use Rattle.std.specs.Prelude.{Ok, Err}
 use Rattle.answers.specs.declared.refusals.Refusal.TheVariants.{InverseOfZero, NoSquareRoot, Unreadable}
 use Rattle.answers.specs.Answers.{number}
 use Rattle.words.specs.Words.{add_word, sub_word, mul_word, neg_word, halve_word}
@@ -50,23 +50,23 @@ root = 114 ∷ 111 ∷ 111 ∷ 116 ∷ []
 -- "`add`, `sub`, `mul` (two words)": the held word; another name is unreadable.
 unfoldable pub of_two : List ℕ → ℕ → ℕ → Answer
 of_two name x y =
-    cond (same name add) (Word (add_word x y))
-    (cond (same name sub) (Word (sub_word x y))
-    (cond (same name mul) (Word (mul_word x y))
-    (Refused Unreadable)))
+    cond (same name add) (Ok (add_word x y))
+    (cond (same name sub) (Ok (sub_word x y))
+    (cond (same name mul) (Ok (mul_word x y))
+    (Err Unreadable)))
 
 -- Of the four names with one word, the two that may refuse; another name is unreadable.
 unfoldable pub may_refuse : List ℕ → ℕ → Answer
 may_refuse name x =
-    cond (same name inv) (cond (x % P == 0) (Refused InverseOfZero) (Word (inverse_word x)))
-    (cond (same name root) (cond (is_square x) (Word (root_word x)) (Refused NoSquareRoot))
-    (Refused Unreadable))
+    cond (same name inv) (cond (x % P == 0) (Err InverseOfZero) (Ok (inverse_word x)))
+    (cond (same name root) (cond (is_square x) (Ok (root_word x)) (Err NoSquareRoot))
+    (Err Unreadable))
 
 -- "`neg`, `half`, `inv`, `root` (one)": the held word or the refusal.
 unfoldable pub of_one : List ℕ → ℕ → Answer
 of_one name x =
-    cond (same name neg) (Word (neg_word x))
-    (cond (same name half) (Word (halve_word x))
+    cond (same name neg) (Ok (neg_word x))
+    (cond (same name half) (Ok (halve_word x))
     (may_refuse name x))
 
 -- Where two words follow a name, which is so if they are what follows, written again: the name's answer. Elsewhere the answer `other`.
@@ -83,7 +83,7 @@ answer_to line =
     two (take 3 line) (drop 3 line)
     (one (take 3 line) (drop 3 line)
     (one (take 4 line) (drop 4 line)
-    (Refused Unreadable)))
+    (Err Unreadable)))
 
 -- The line "`refused N`", "ended by byte 10".
 abbrev pub refused_line : ℕ → List ℕ
@@ -91,8 +91,8 @@ refused_line n = 114 ∷ 101 ∷ 102 ∷ 117 ∷ 115 ∷ 101 ∷ 100 ∷ 32 ∷ 
 
 -- An answer as a line: "the held word so written, or `refused N`", "ended by byte 10".
 unfoldable pub text : Answer → List ℕ
-text (Word w) = hex 16 w ++ (10 ∷ [])
-text (Refused r) = refused_line (number r)
+text (Ok w) = hex 16 w ++ (10 ∷ [])
+text (Err r) = refused_line (number r)
 
 -- The reply to a line.
 abbrev pub reply : List ℕ → List ℕ

@@ -2,7 +2,6 @@
 #![tactic(auto)]
 
 mod desk;
-mod digits;
 mod lines;
 mod replies;
 

@@ -1,88 +1,76 @@
 // The answer to a line. Its length alone fixes where its words stand.
-ghost use Rattle.std.specs.Prelude.{◌≡◌, length};
-ghost use Rattle.answers.specs.declared.replies.Answer.TheVariants.{Refused};
+ghost use Rattle.std.specs.Prelude.{◌≡◌, length, Err};
 ghost use Rattle.answers.specs.declared.refusals.Refusal.TheVariants.{Unreadable};
-ghost use Rattle.desk_line.specs.Replies.{of_two, may_refuse, of_one, two, one, answer_to};
+ghost use Rattle.desk_line.specs.Replies.{of_two, of_one, two, one, answer_to};
+ghost use Rattle.desk_line.specs.Promises.{read_word};
 
-use super::digits::read_word;
-use goldilocks::{Answer, Refusal, add, halve, mul, neg, sub, try_inverse, try_sqrt};
-use text::same;
+use goldilocks::{Refusal, add, halve, mul, neg, sub, try_inverse, try_sqrt};
+use text::read_column;
 
-// The operations on two words, by name.
-fn of_two(name: &[u8], x: u64, y: u64) -> Answer
-    ensures { result ≡ of_two name.now x y }
+// The word on a line: a space and 16 digits.
+fn read_word(bytes: &[u8]) -> Result<u64, Refusal>
+    requires { length bytes.now ≡ 17 }
+    ensures { result ≡ read_word bytes.now }
 {
-    if same(name, b"add") {
-        return Answer::Word(add(x, y));
-    }
-    if same(name, b"sub") {
-        return Answer::Word(sub(x, y));
-    }
-    if same(name, b"mul") {
-        return Answer::Word(mul(x, y));
-    }
-    Answer::Refused(Refusal::Unreadable)
+    read_column(bytes).ok_or(Refusal::Unreadable)
 }
 
-// Of the operations on one word, those that may refuse.
-fn may_refuse(name: &[u8], x: u64) -> Answer
-    ensures { result ≡ may_refuse name.now x }
+// The operations on two words, by name.
+#[tactic(auto, using(crate::proofs::NameTests::names), unfolding(crate::specs::Replies::of_two))]
+fn of_two(name: &[u8], x: u64, y: u64) -> Result<u64, Refusal>
+    ensures { result ≡ of_two name.now x y }
 {
-    if same(name, b"inv") {
-        return try_inverse(x);
+    match name {
+        b"add" => Ok(add(x, y)),
+        b"sub" => Ok(sub(x, y)),
+        b"mul" => Ok(mul(x, y)),
+        _ => Err(Refusal::Unreadable),
     }
-    if same(name, b"root") {
-        return try_sqrt(x);
-    }
-    Answer::Refused(Refusal::Unreadable)
 }
 
 // The operations on one word, by name.
-fn of_one(name: &[u8], x: u64) -> Answer
+#[tactic(auto, using(crate::proofs::NameTests::names), unfolding(crate::specs::Replies::of_one, crate::specs::Replies::may_refuse))]
+fn of_one(name: &[u8], x: u64) -> Result<u64, Refusal>
     ensures { result ≡ of_one name.now x }
 {
-    if same(name, b"neg") {
-        return Answer::Word(neg(x));
+    match name {
+        b"neg" => Ok(neg(x)),
+        b"half" => Ok(halve(x)),
+        b"inv" => try_inverse(x),
+        b"root" => try_sqrt(x),
+        _ => Err(Refusal::Unreadable),
     }
-    if same(name, b"half") {
-        return Answer::Word(halve(x));
-    }
-    may_refuse(name, x)
 }
 
 // A name, and what follows it where there is room for two words.
-fn two_words(name: &[u8], rest: &[u8]) -> Answer
+fn two_words(name: &[u8], rest: &[u8]) -> Result<u64, Refusal>
     requires { length rest.now ≡ 34 }
-    ensures { result ≡ two name.now rest.now (Refused Unreadable) }
+    ensures { result ≡ two name.now rest.now (Err Unreadable) }
 {
-    let Answer::Word(x) = read_word(&rest[0..17]) else {
-        return Answer::Refused(Refusal::Unreadable);
-    };
-    let Answer::Word(y) = read_word(&rest[17..34]) else {
-        return Answer::Refused(Refusal::Unreadable);
-    };
+    let x = read_word(&rest[..17])?;
+    let y = read_word(&rest[17..])?;
     of_two(name, x, y)
 }
 
 // A name, and what follows it where there is room for one word.
-fn one_word(name: &[u8], rest: &[u8]) -> Answer
+#[tactic(auto, using(crate::proofs::Parts::word))]
+fn one_word(name: &[u8], rest: &[u8]) -> Result<u64, Refusal>
     requires { length rest.now ≡ 17 }
-    ensures { result ≡ one name.now rest.now (Refused Unreadable) }
+    ensures { result ≡ one name.now rest.now (Err Unreadable) }
 {
-    let Answer::Word(x) = read_word(rest) else {
-        return Answer::Refused(Refusal::Unreadable);
-    };
+    let x = read_word(rest)?;
     of_one(name, x)
 }
 
 // The held word that a line asks for, or the refusal: that of its operation, or "unreadable".
-pub fn answer(line: &[u8]) -> Answer
+#[tactic(auto, using(crate::proofs::Shapes::unreadable))]
+pub fn answer(line: &[u8]) -> Result<u64, Refusal>
     ensures { result ≡ answer_to line.now }
 {
     match line.len() {
-        37 => two_words(&line[0..3], &line[3..37]),
-        20 => one_word(&line[0..3], &line[3..20]),
-        21 => one_word(&line[0..4], &line[4..21]),
-        _ => Answer::Refused(Refusal::Unreadable),
+        37 => two_words(&line[..3], &line[3..]),
+        20 => one_word(&line[..3], &line[3..]),
+        21 => one_word(&line[..4], &line[4..]),
+        _ => Err(Refusal::Unreadable),
     }
 }

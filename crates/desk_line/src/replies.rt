@@ -1,70 +1,36 @@
 // An answer as a line of text.
-ghost use Rattle.std.specs.Prelude.{◌≡◌, [], ◌+◌, ◌≤◌, length};
-ghost use Rattle.std.proofs.Math.Seq.{paste};
-ghost use Rattle.desk_line.specs.Replies.{refused_line, text};
-ghost use Rattle.desk_line.specs.Promises.{Says};
+ghost use Rattle.std.specs.Prelude.{◌≡◌, [], ◌∷◌, ◌++◌, ◌+◌, ◌<◌, length};
+ghost use Rattle.desk_line.specs.Replies.{text};
 
-use goldilocks::Answer;
-use text::{decimal, spell_word};
-
-// The byte that ends a line.
-pub(crate) const LINE_END: u8 = 10;
+use arrayvec::ArrayVec;
+use goldilocks::Refusal;
+use text::{LINE_END, decimal, hex};
 
 // The longest reply: 16 digits and the line's end.
 pub(crate) const LONGEST: usize = 17;
 
-// A reply: its first len bytes, with zeros behind.
-#[derive(Clone, Copy)]
-pub struct Reply {
-    pub text: [u8; 17],
-    pub len: usize,
-}
+// A reply, which is a line of text.
+pub type Reply = ArrayVec<u8, LONGEST>;
 
-// No reply.
-pub(crate) fn silence() -> Reply
-    ensures { Says [] result }
+// A line of two texts, one behind the other.
+fn line(front: &[u8], back: &[u8]) -> Reply
+    requires { length front.now + length back.now < LONGEST }
+    ensures { result.items ≡ front.now ++ back.now ++ (10 ∷ []) }
 {
-    Reply {
-        text: [0; 17],
-        len: 0,
-    }
-}
-
-// Puts the first n bytes of a text at a place of out.
-pub(crate) fn put(text: &[u8], n: usize, out: &mut [u8], at: usize)
-    requires { (n ≤ length text.now) × (at + n ≤ length out.old) }
-    ensures { out.new ≡ paste out.old at text.now n }
-{
-    let mut i = 0;
-    while i < n {
-        out[at + i] = text[i];
-        i += 1;
-    }
-}
-
-// The line `refused N`: there is room for any number of up to two digits.
-fn refused(number: u64) -> Reply
-    requires { number ≤ 99 }
-    ensures { Says (refused_line number) result }
-{
-    let mut text = *b"refused \0\0\0\0\0\0\0\0\0";
-    let spelt = decimal(number);
-    let digits = spelt.text;
-    let n = spelt.len;
-    put(&digits, n, &mut text, 8);
-    text[8 + n] = LINE_END;
-    Reply { text, len: 9 + n }
+    let mut reply = Reply::new();
+    reply.try_extend_from_slice(front).unwrap();
+    reply.try_extend_from_slice(back).unwrap();
+    reply.push(LINE_END);
+    reply
 }
 
 // The word's digits, or `refused` and the refusal's number.
-pub fn spell(answer: Answer) -> Reply
-    ensures { Says (text answer) result }
+#[tactic(auto, using(text::proofs::DigitLaws::length_digits, crate::proofs::Numbers::number_length), unfolding(crate::specs::Replies::text))]
+pub fn spell(answer: Result<u64, Refusal>) -> Reply
+    ensures { result.items ≡ text answer }
 {
     match answer {
-        Answer::Word(word) => Reply {
-            text: spell_word(word),
-            len: 17,
-        },
-        Answer::Refused(refusal) => refused(refusal.number()),
+        Ok(word) => line(&hex(word), b""),
+        Err(refusal) => line(b"refused ", &decimal(refusal.number())),
     }
 }

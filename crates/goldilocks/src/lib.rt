@@ -5,8 +5,8 @@
 // P, 2^64 - 2^32 + 1.
 pub use words::ORDER_U64;
 
-// What a refusable operation answers, and 01's refusals with their numbers.
-pub use answers::{Answer, Refusal};
+// 01's refusals with their numbers; beside one of coding the index of the first bad group.
+pub use answers::{Refusal, RefusedAt};
 
 // x + y, less P the fewest times that bring it below 2^64.
 pub use words::add;
@@ -47,8 +47,6 @@ pub use roots::two_adic_generator;
 
 // Equality, by canonical forms: 0 and P are equal.
 pub use words::eq;
-// What a comparison answers.
-pub use words::Ordering;
 // Order, by canonical forms.
 pub use words::cmp;
 // Whether a word is zero, as 0 and P are.
@@ -57,8 +55,6 @@ pub use words::is_zero;
 // The low k bits of the canonical form, k up to 32.
 pub use words::slot;
 
-// What coding answers: done, or a refusal and the index of the first bad group.
-pub use answers::Coded;
 // Words into a lent buffer of 8 bytes each, canonical and little-endian.
 pub use wire::encode;
 // The words of such a buffer; none is written unless every group is below P.

@@ -1,10 +1,10 @@
 -- How answers go out of the library, where there are numbers only.
 use Rattle.std.specs.Prelude.{◌≡◌, ℕ, ℤ, pos, negsuc}
-use Rattle.answers.specs.declared.replies.Answer.{Answer}
+use Rattle.answers.specs.Answers.{Answer}
 use Rattle.answers.specs.Answers.{refusal_of, word_of, coded_refusal, index_of}
-use Rattle.answers.specs.declared.replies.Coded.{Coded}
-use Rattle.words.specs.declared.canonical.Ordering.{Ordering}
-use Rattle.words.specs.declared.canonical.Ordering.TheVariants.{Less, Equal, Greater}
+use Rattle.answers.specs.Answers.{Coded}
+use Rattle.std.specs.declared.cmp.Ordering.{Ordering}
+use Rattle.std.specs.declared.cmp.Ordering.TheVariants.{Less, Equal, Greater}
 
 -- The refusal's number, 0 for none, and the word, 0 with a refusal.
 abbrev pub number_and_word : Answer → ℕ × ℕ

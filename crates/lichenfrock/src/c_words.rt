@@ -11,10 +11,10 @@ ghost use Rattle.lichenfrock.specs.Handed.{number_and_word, sign, Handed};
 
 use super::handing::hand_word;
 use goldilocks::{
-    Ordering, add, as_canonical_u64, cmp, eq, from_canonical_checked_i64,
-    from_canonical_checked_u64, from_i64, from_u128, halve, is_zero, mul, neg, reduce128, slot,
-    square, sub, value,
+    add, as_canonical_u64, cmp, eq, from_canonical_checked_i64, from_canonical_checked_u64,
+    from_i64, from_u128, halve, is_zero, mul, neg, reduce128, slot, square, sub, value,
 };
+use std::cmp::Ordering;
 
 // The sum: x + y, less P the fewest times that bring it below 2^64.
 #[unsafe(no_mangle)]
@@ -96,7 +96,7 @@ pub extern "C" fn lichenfrock_eq(x: u64, y: u64) -> bool
     eq(x, y)
 }
 
-// How the canonical form of x compares with that of y: -1, 0 or 1.
+// How the canonical form of x compares with that of y: -1, 0 or 1, as the header has it.
 #[unsafe(no_mangle)]
 pub extern "C" fn lichenfrock_cmp(x: u64, y: u64) -> i32
     ensures { Handed sign (Seen (order (canonical x) (canonical y)) (order (x % P) (y % P))) result }

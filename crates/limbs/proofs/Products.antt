@@ -1,8 +1,8 @@
 -- Products of two words by halves of 32 bits, in two limbs.
 use Rattle.std.proofs.Common.{◌≡◌, ℕ, ◌+◌, ◌-◌, ◌*◌, ◌/◌, ◌%◌, ◌^◌, ◌<◌, ◌≤◌, lt_of_le_of_lt, le_of_lt, mod-eq_of_lt, mul-le-mul, mul-le-mul_left, mul-lt-mul_of_pos_right, arith, pow_pos, pow-add}
 use mathlib.Core.Path.{subst⁻¹}
-use native.Mathlib.Nat.{div-add-mod, mod-add-div}
-use Rattle.limbs.specs.Limbs.{limbs, largest}
+use native.Mathlib.Nat.{div-add-mod}
+use Rattle.limbs.specs.Limbs.{largest}
 
 pub product_below : (k : ℕ) {a b : ℕ} → a < 2 ^ k → b < 2 ^ k → a * b < 2 ^ (k + k)
 product_below k {a} {b} h i =
@@ -28,16 +28,3 @@ pub multiplied : (x y : ℕ) {xh yh ll lh hl hh n : ℕ} → xh ≡ x / 2 ^ 32 �
     → ll ≡ x % 2 ^ 32 * (y % 2 ^ 32) → lh ≡ x % 2 ^ 32 * (yh % 2 ^ 32) → hl ≡ xh % 2 ^ 32 * (y % 2 ^ 32) → hh ≡ xh % 2 ^ 32 * (yh % 2 ^ 32)
     → n ≡ 2 ^ 64 * hh + 2 ^ 32 * (lh + hl) + ll → n ≡ x * y
 multiplied x y a h b i p q r s e = rw (e, p, q, r, s, mod-eq_of_lt h, mod-eq_of_lt i, a, b, by_halves x y)
-
--- the sum n of four partial products: its upper limb by a ladder of carries, its low limb by sums that wrap
-module _ (n ll lh hl hh a b c d m lo : ℕ) (e : n ≡ 2 ^ 64 * hh + 2 ^ 32 * (lh + hl) + ll) where
-  upper : a ≡ ll / 2 ^ 32 → b ≡ (hl + a) % 2 ^ 32 → c ≡ (hl + a) / 2 ^ 32 → d ≡ (lh + b) / 2 ^ 32 → hh + c + d ≡ n / 2 ^ 64
-  upper f g h i = omega arith
-
-  lower : m ≡ (lh + hl) % 2 ^ 64 → lo ≡ (ll + m * 2 ^ 32 % 2 ^ 64) % 2 ^ 64 → lo ≡ n % 2 ^ 64
-  lower f g = omega arith
-
-  pub joined : a ≡ ll / 2 ^ 32 → b ≡ (hl + a) % 2 ^ 32 → c ≡ (hl + a) / 2 ^ 32 → d ≡ (lh + b) / 2 ^ 32
-      → m ≡ (lh + hl) % 2 ^ 64 → lo ≡ (ll + m * 2 ^ 32 % 2 ^ 64) % 2 ^ 64 → limbs lo (hh + c + d) ≡ n
-  unfolding limbs
-  joined f g h i j k = rw (upper f g h i, lower j k) (mod-add-div n (2 ^ 64))

@@ -1,45 +1,83 @@
 // Numbers below 2^128 in two limbs: their sums, with the carry between the limbs, and their parts at bit 96.
-ghost use Rattle.std.specs.Prelude.{◌≡◌, ◌+◌, ◌/◌, ◌%◌, ◌^◌};
-ghost use Rattle.limbs.specs.Limbs.{limbs};
+ghost use Rattle.std.specs.Prelude.{◌≡◌, ◌+◌, ◌*◌, ◌/◌, ◌%◌, ◌^◌};
 
 use super::bits::{high_bits, low_bits};
-use std::num::wrapping_add_u64;
-
-// A number below 2^128 in two limbs, lo + 2^64 * hi.
-#[derive(Clone, Copy)]
-pub struct Limbs {
-    pub lo: u64,
-    pub hi: u64,
-}
+use std::marker::Model;
 
 // The carry of x + y: 1 if the sum is 2^64 or more, else 0.
 pub fn carry(x: u64, y: u64) -> u64
     ensures { result ≡ (x + y) / 2 ^ 64 }
 {
-    if x <= wrapping_add_u64(x, y) { 0 } else { 1 }
+    u64::from(x.wrapping_add(y) < x)
 }
 
-// a + b, modulo 2^128.
-pub fn add_wide(a: Limbs, b: Limbs) -> Limbs
-    ensures { limbs result.lo result.hi ≡ (limbs a.lo a.hi + limbs b.lo b.hi) % 2 ^ 128 }
-{
-    let lo = wrapping_add_u64(a.lo, b.lo);
-    let upper = wrapping_add_u64(a.hi, b.hi);
-    let hi = wrapping_add_u64(upper, carry(a.lo, b.lo));
-    Limbs { lo, hi }
+// A number below 2^128 in two limbs, lo + 2^64 * hi. Contracts see the number.
+#[derive(Clone, Copy)]
+pub struct Limbs {
+    lo: u64,
+    hi: u64,
 }
 
-// The low 96 bits of a number.
-pub fn low_96(n: Limbs) -> Limbs
-    ensures { limbs result.lo result.hi ≡ limbs n.lo n.hi % 2 ^ 96 }
-{
-    let hi = low_bits(n.hi, 32);
-    Limbs { lo: n.lo, hi }
+impl Model for Limbs {
+    ghost use Rattle.std.specs.Prelude.{ℕ, ◌≡◌, ◌+◌, ◌*◌, ◌/◌, ◌%◌, ◌^◌, ◌<◌};
+    ghost use Rattle.std.proofs.Common.{arith, ap₂};
+    ghost use Rattle.limbs.specs.declared.wide.Limbs.TheInside.{Inside};
+
+    ghost Value = { ℕ };
+
+    ghost view = { λ n. n.lo + 2 ^ 64 * n.hi };
+
+    ghost invariant = { λ n. n.lo < 2 ^ 64 };
+
+    ghost inverse = { λ n. record { lo = n % 2 ^ 64; hi = n / 2 ^ 64 } };
+
+    ghost inverse_ok = { λ n h. ap₂ (λ (l u : ℕ). record { lo = l; hi = u }) (Prim.omega arith) (Prim.omega arith) };
 }
 
-// The part of a number above its low 96 bits.
-pub fn above_96(n: Limbs) -> u64
-    ensures { result ≡ limbs n.lo n.hi / 2 ^ 96 }
-{
-    high_bits(n.hi, 32)
+impl Limbs {
+    // The number with these limbs.
+    pub fn new(lo: u64, hi: u64) -> Self
+        ensures { result ≡ lo + 2 ^ 64 * hi }
+    {
+        Self { lo, hi }
+    }
+
+    // The lower limb.
+    pub fn lo(self) -> u64
+        ensures { result ≡ self % 2 ^ 64 }
+    {
+        self.lo
+    }
+
+    // The upper limb.
+    pub fn hi(self) -> u64
+        ensures { result ≡ self / 2 ^ 64 }
+    {
+        self.hi
+    }
+
+    // The sum with another number, modulo 2^128.
+    pub fn add_wide(self, other: Limbs) -> Limbs
+        ensures { result ≡ (self + other) % 2 ^ 128 }
+    {
+        let lo = self.lo.wrapping_add(other.lo);
+        let upper = self.hi.wrapping_add(other.hi);
+        let hi = upper.wrapping_add(carry(self.lo, other.lo));
+        Limbs { lo, hi }
+    }
+
+    // The low 96 bits.
+    pub fn low_96(self) -> Limbs
+        ensures { result ≡ self % 2 ^ 96 }
+    {
+        let hi = low_bits(self.hi, 32);
+        Limbs { lo: self.lo, hi }
+    }
+
+    // The part above the low 96 bits.
+    pub fn above_96(self) -> u64
+        ensures { result ≡ self / 2 ^ 96 }
+    {
+        high_bits(self.hi, 32)
+    }
 }

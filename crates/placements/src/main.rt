@@ -6,37 +6,35 @@
 
 use desk_line::spell;
 use goldilocks::{
-    Answer, Coded, ORDER_U64, add, decode, div_2exp_u64, dot_product, from_canonical_checked_i64,
+    ORDER_U64, Refusal, add, decode, div_2exp_u64, dot_product, from_canonical_checked_i64,
     from_i64, halve, mul, mul_2exp_u64, neg, reduce128, sub, try_inverse, try_sqrt,
 };
 use std::io;
 use std::io::Write;
 
-// 2^64 - 1, the largest word.
-const LARGEST: u64 = 0xFFFF_FFFF_FFFF_FFFF;
-
 // 2^63 - 2^31, the end of what the checked i64 reader takes.
 const POSITIVE_END: i64 = 0x7FFF_FFFF_8000_0000;
 
 // A line: what was asked, and the word or the refusal that it got.
-fn answer<W: Write>(writer: &mut W, what: &[u8], got: Answer) -> io::Result<()> {
+fn answer<W: Write>(writer: &mut W, what: &[u8], got: Result<u64, Refusal>) -> io::Result<()> {
     writer.write_all(what)?;
-    let reply = spell(got);
-    let text = reply.text;
-    let n = reply.len;
-    writer.write_all(&text[..n])
+    writer.write_all(spell(got).as_slice())
 }
 
 // The same where there is always a word.
 fn word<W: Write>(writer: &mut W, what: &[u8], got: u64) -> io::Result<()> {
-    answer(writer, what, Answer::Word(got))
+    answer(writer, what, Ok(got))
 }
 
 // W1 to W3.
 fn sums_and_differences<W: Write>(writer: &mut W) -> io::Result<()> {
     word(writer, b"W1 add P-1, 1 = ", add(ORDER_U64 - 1, 1))?;
-    word(writer, b"W2 add of 2^64-1 twice = ", add(LARGEST, LARGEST))?;
-    word(writer, b"W3 sub 0, 2^64-1 = ", sub(0, LARGEST))
+    word(
+        writer,
+        b"W2 add of 2^64-1 twice = ",
+        add(u64::MAX, u64::MAX),
+    )?;
+    word(writer, b"W3 sub 0, 2^64-1 = ", sub(0, u64::MAX))
 }
 
 // W4 to W7.
@@ -53,7 +51,7 @@ fn negatives_products_and_halves<W: Write>(writer: &mut W) -> io::Result<()> {
         b"W6 mul 2^32, 2^32 = ",
         mul(0x1_0000_0000, 0x1_0000_0000),
     )?;
-    word(writer, b"W7 halve 2^64-1 = ", halve(LARGEST))
+    word(writer, b"W7 halve 2^64-1 = ", halve(u64::MAX))
 }
 
 // W8 and W9.
@@ -66,7 +64,7 @@ fn shifts<W: Write>(writer: &mut W) -> io::Result<()> {
 
 // W10 to W13.
 fn dots_roots_and_signed<W: Write>(writer: &mut W) -> io::Result<()> {
-    let pair = [LARGEST; 2];
+    let pair = [u64::MAX; 2];
     answer(
         writer,
         b"W10 dot of two pairs, all words 2^64-1 = ",
@@ -101,7 +99,7 @@ fn limbs_and_inverses<W: Write>(writer: &mut W) -> io::Result<()> {
     word(
         writer,
         b"reduce of both limbs 2^64-1 = ",
-        reduce128(LARGEST, LARGEST),
+        reduce128(u64::MAX, u64::MAX),
     )?;
     answer(writer, b"inverse of 2 = ", try_inverse(2))
 }
@@ -110,8 +108,8 @@ fn limbs_and_inverses<W: Write>(writer: &mut W) -> io::Result<()> {
 fn read<W: Write>(writer: &mut W, what: &[u8], bytes: &[u8]) -> io::Result<()> {
     let mut words = [0u64; 1];
     match decode(bytes, &mut words) {
-        Coded::Done => word(writer, what, words[0]),
-        Coded::Refused(refusal, _) => answer(writer, what, Answer::Refused(refusal)),
+        Ok(()) => word(writer, what, words[0]),
+        Err(refused) => answer(writer, what, Err(refused.refusal)),
     }
 }
 

@@ -1,3 +1,2 @@
 -- What the contracts of this crate speak of.
-pub mod Room
 pub mod Lists

@@ -1,49 +1,47 @@
 // The lists that a line stands for, and the one word by which the contents of a list are compared.
-ghost use Rattle.std.specs.Prelude.{◌≡◌, ℕ, ◌*◌, ◌/◌, ◌%◌, ◌^◌, ◌<◌, ◌≤◌, length, slice_index};
-ghost use Rattle.std.specs.Counts.{IsPrefixLen};
-ghost use Rattle.replay.specs.Lists.{term, term_byte};
+ghost use Rattle.std.specs.Prelude.{◌≡◌, ℕ, ◌<◌, length, slice_index, slice_get, IfSome};
+ghost use Rattle.std.specs.Iterator.{IsFinite};
+ghost use Rattle.replay.specs.Lists.{term as Lists·term, term_byte as Lists·term_byte};
 
-use std::num::wrapping_add_u64;
-
-// The byte at a place of a word, the lowest first.
-fn byte_of(word: u64, place: u64) -> u8
-    requires { place ≤ 7 }
-    ensures { result ≡ word / 2 ^ (8 * place) % 256 }
+// The word at a place of those that begin with `first` and grow by `step`, modulo 2^64.
+#[tactic(auto, unfolding(crate::specs::Lists::term), using(std::proofs::Common::mul_comm))]
+fn term(first: u64, step: u64, place: usize) -> u64
+    ensures { result ≡ Lists·term first step place }
 {
-    ((word >> (8 * place)) % 256) as u8
+    first.wrapping_add(step.wrapping_mul(place as u64))
 }
 
-// The first n words become first, first + step, first + 2 * step and so on, modulo 2^64.
-pub(crate) fn fill_words(words: &mut [u64], n: usize, first: u64, step: u64)
-    requires { n ≤ length words.old }
-    ensures words_len_unchanged { (length words.new ≡ length words.old) × IsPrefixLen n words.new }
-    ensures by_index { (k : ℕ) → k < n → slice_index words.new k ≡ term first step k }
+// The byte at a place of such words, 8 for each, little-endian.
+#[tactic(auto, unfolding(crate::specs::Lists::term_byte))]
+fn term_byte(first: u64, step: u64, place: usize) -> u8
+    ensures { result ≡ Lists·term_byte first step place }
 {
-    let mut word = first;
-    let mut i = 0;
-    while i < n {
-        words[i] = word;
-        word = wrapping_add_u64(word, step);
-        i += 1;
+    let word = term(first, step, place / 8);
+    ((word >> (8 * (place % 8))) % 256) as u8
+}
+
+// Each item becomes what `at` says of its place.
+fn fill<T: Copy, F: Fn(usize) -> T>(items: &mut [T], at: F)
+    requires { F.IsAlwaysCallable at }
+    ensures { (k : ℕ) → k < length items.new → IfSome (slice_get items.new k) (λ v. F.post at k v) }
+{
+    for (place, item) in items.iter_mut().enumerate() {
+        *item = at(place);
     }
 }
 
-// The first n bytes become those of such words, 8 for each, little-endian; the last word may be cut.
-pub(crate) fn fill_bytes(bytes: &mut [u8], n: usize, first: u64, step: u64)
-    requires { n ≤ length bytes.old }
-    ensures bytes_len_unchanged { (length bytes.new ≡ length bytes.old) × IsPrefixLen n bytes.new }
-    ensures by_index { (k : ℕ) → k < n → slice_index bytes.new k ≡ term_byte first step k }
+// The words become those that begin with `first` and grow by `step`.
+pub(crate) fn fill_words(words: &mut [u64], first: u64, step: u64)
+    ensures { (k : ℕ) → k < length words.new → slice_index words.new k ≡ Lists·term first step k }
 {
-    let mut word = first;
-    let mut i = 0;
-    while i < n {
-        let place = i % 8;
-        bytes[i] = byte_of(word, place as u64);
-        if place == 7 {
-            word = wrapping_add_u64(word, step);
-        }
-        i += 1;
-    }
+    fill(words, |place| term(first, step, place));
+}
+
+// The bytes become those of such words; the last word may be cut.
+pub(crate) fn fill_bytes(bytes: &mut [u8], first: u64, step: u64)
+    ensures { (k : ℕ) → k < length bytes.new → slice_index bytes.new k ≡ Lists·term_byte first step k }
+{
+    fill(bytes, |place| term_byte(first, step, place));
 }
 
 // The digest before any item.
@@ -57,32 +55,10 @@ fn mixed(digest: u64, item: u64) -> u64 {
     c ^ (c << 17)
 }
 
-// The digest of the first n words.
-pub(crate) fn digest_of_words(words: &[u64], n: usize) -> u64
-    requires { n ≤ length words.now }
+// The digest of a list of items.
+pub(crate) fn digest<I: Iterator<Item = u64>>(items: I) -> u64
+    requires can { I.can_next items }
+    requires finite { IsFinite (I.remaining items) }
 {
-    let mut digest = START;
-    let mut i = 0;
-    while i < n {
-        digest = mixed(digest, words[i]);
-        i += 1;
-    }
-    digest
-}
-
-fn wide(byte: u8) -> u64 {
-    byte as u64
-}
-
-// The same of bytes.
-pub(crate) fn digest_of_bytes(bytes: &[u8], n: usize) -> u64
-    requires { n ≤ length bytes.now }
-{
-    let mut digest = START;
-    let mut i = 0;
-    while i < n {
-        digest = mixed(digest, wide(bytes[i]));
-        i += 1;
-    }
-    digest
+    items.fold(START, mixed)
 }

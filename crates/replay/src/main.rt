@@ -5,257 +5,161 @@
 // taken for a good one.
 #![tactic(auto)]
 
-ghost use Rattle.std.specs.Prelude.{◌≡◌, ◌+◌, ◌%◌, ◌^◌, IfOk, length};
-ghost use Rattle.std.specs.Counts.{IsPrefixLen};
-ghost use Rattle.replay.specs.Room.{Room, line_bytes, piece_bytes};
+ghost use Rattle.std.specs.Prelude.{◌≡◌, ◌+◌, ◌%◌, ◌^◌, ◌≤◌, IfOk, length};
 
 mod call;
 mod line;
 mod lists;
 mod outcome;
 
-use call::call;
-use line::{Asked, LINE, LINE_END, name_length, read_arguments, read_outcome};
-use outcome::{Answered, Outcome, alike};
+use call::{Room, call};
+use line::{LINE, read_arguments, read_name, read_outcome};
+use outcome::Outcome;
 use std::io;
 use std::io::{Read, Write};
-use std::num::wrapping_add_u64;
-use text::spell_word;
+use text::LINE_END;
 
 // The bytes of the piece of the input that is read at a time, 512 lines.
 const PIECE: usize = 512 * LINE;
 
-// How many lines agree and how many do not, and whether to go on.
-#[derive(Clone, Copy)]
+// How many lines agree and how many do not.
+#[derive(Clone, Copy, Default)]
 struct Tally {
     agree: u64,
     differ: u64,
-    more: bool,
 }
 
 impl Tally {
-    fn new() -> Self {
-        Tally {
-            agree: 0,
-            differ: 0,
-            more: true,
-        }
-    }
-
     // One line more that agrees. No input has 2^64 lines.
-    fn agreed(mut self) -> Self
-        ensures { (result.agree ≡ (self.agree + 1) % 2 ^ 64) × (result.differ ≡ self.differ) }
+    fn agreed(&mut self)
+        ensures { (self.new.agree ≡ (self.old.agree + 1) % 2 ^ 64) × (self.new.differ ≡ self.old.differ) }
     {
-        self.agree = wrapping_add_u64(self.agree, 1);
-        self
+        self.agree = self.agree.wrapping_add(1);
     }
 
     // One line more that does not.
-    fn differed(mut self) -> Self
-        ensures { (result.agree ≡ self.agree) × (result.differ ≡ (self.differ + 1) % 2 ^ 64) }
+    fn differed(&mut self)
+        ensures { (self.new.agree ≡ self.old.agree) × (self.new.differ ≡ (self.old.differ + 1) % 2 ^ 64) }
     {
-        self.differ = wrapping_add_u64(self.differ, 1);
-        self
-    }
-
-    // The input has ended.
-    fn stopped(mut self) -> Self {
-        self.more = false;
-        self
+        self.differ = self.differ.wrapping_add(1);
     }
 }
 
-// How many of a line's bytes stand before its end: all, where it has none, but never the last of a whole line, where the end belongs.
-fn before_end(line: &[u8]) -> usize
-    ensures { IsPrefixLen result line.now }
-{
-    let mut i = 0;
-    while i < line.len() {
-        if line[i] == LINE_END {
-            return i;
-        }
-        if i == LINE - 1 {
-            return i;
-        }
-        i += 1;
+// What of a line stands before its end: all, where it has none, but never the last byte of a whole line, where the end belongs.
+fn before_end(line: &[u8]) -> &[u8] {
+    let front = &line[..line.len().min(LINE - 1)];
+    match front.iter().position(|byte| *byte == LINE_END) {
+        Some(end) => &front[..end],
+        None => front,
     }
-    i
 }
 
-// Counts a line that cannot be read, and writes it.
-fn unreadable<W: Write>(writer: &mut W, line: &[u8], tally: Tally) -> io::Result<Tally> {
-    let n = before_end(line);
-    writer.write_all(&line[..n])?;
-    writer.write_all(b" unreadable\n")?;
-    Ok(tally.differed())
-}
-
-// Counts a line that does not agree, and writes it with the outcome, in as many digits as the line has for it.
-fn differs<W: Write>(writer: &mut W, line: &[u8], got: Outcome, tally: Tally) -> io::Result<Tally> {
-    let n = before_end(line);
-    let number = spell_word(got.number);
-    let index = spell_word(got.index);
-    let word = spell_word(got.word);
-    writer.write_all(&line[..n])?;
-    writer.write_all(b" got ")?;
-    writer.write_all(&number[14..16])?;
-    writer.write_all(b" ")?;
-    writer.write_all(&index[12..16])?;
-    writer.write_all(b" ")?;
-    writer.write_all(&word)?;
-    Ok(tally.differed())
-}
-
-// Reads a line, makes its call, and compares.
-fn judge<W: Write>(
-    writer: &mut W,
-    line: &[u8],
+// A replay: where it writes, the counts so far, and the room for the lists of a call.
+#[derive(Drop)]
+struct Replay<'a, W> {
+    writer: &'a mut W,
     tally: Tally,
-    words: &mut [u64],
-    others: &mut [u64],
-    bytes: &mut [u8],
-) -> io::Result<Tally>
-    requires { (length line.now ≡ line_bytes) × Room words.old others.old bytes.old }
-    ensures { Room words.new others.new bytes.new }
-{
-    let Asked::With(arguments) = read_arguments(line) else {
-        return unreadable(writer, line, tally);
-    };
-    let Answered::With(expected) = read_outcome(line) else {
-        return unreadable(writer, line, tally);
-    };
-    let n = name_length(line);
-    let Answered::With(outcome) = call(&line[..n], arguments, words, others, bytes) else {
-        return unreadable(writer, line, tally);
-    };
-    if alike(outcome, expected) {
-        return Ok(tally.agreed());
-    }
-    differs(writer, line, outcome, tally)
+    room: Room,
 }
 
-// Judges the lines of a piece. Only the last piece of an input can end in a short one.
-fn judge_all<W: Write>(
-    writer: &mut W,
-    piece: &[u8],
-    before: Tally,
-    words: &mut [u64],
-    others: &mut [u64],
-    bytes: &mut [u8],
-) -> io::Result<Tally>
-    requires { Room words.old others.old bytes.old }
-    ensures { Room words.new others.new bytes.new }
-{
-    let mut tally = before;
-    let mut at = 0;
-    while at < piece.len() {
-        if piece.len() - at < LINE {
-            return unreadable(writer, &piece[at..], tally);
+// Makes the call of a line, and gives what the original Rust answered and what came now. There is neither where the line cannot be read.
+fn both_outcomes(line: &[u8; LINE], room: &mut Room) -> Option<(Outcome, Outcome)> {
+    let asked = read_arguments(line)?;
+    let expected = read_outcome(line)?;
+    let got = call(read_name(line)?, asked, room)?;
+    Some((expected, got))
+}
+
+impl<'a, W: Write> Replay<'a, W> {
+    // The replay before any line.
+    fn new(writer: &'a mut W) -> Self {
+        Replay {
+            writer,
+            tally: Tally::default(),
+            room: Room::default(),
         }
-        let end = at + LINE;
-        tally = judge(writer, &piece[at..end], tally, words, others, bytes)?;
-        at = end;
     }
-    Ok(tally)
+
+    // Counts a line that cannot be read, and writes it.
+    fn unreadable(&mut self, line: &[u8]) -> io::Result<()> {
+        self.tally.differed();
+        self.writer.write_all(before_end(line))?;
+        self.writer.write_all(b" unreadable\n")
+    }
+
+    // Counts a line that does not agree, and writes it with the outcome, in as many digits as the line has for it.
+    fn differs(&mut self, line: &[u8], got: Outcome) -> io::Result<()> {
+        self.tally.differed();
+        self.writer.write_all(before_end(line))?;
+        writeln!(
+            self.writer,
+            " got {:02X} {:04X} {:016X}",
+            got.number, got.index, got.word
+        )
+    }
+
+    // Reads a line, makes its call, and compares.
+    fn judge(&mut self, line: &[u8; LINE]) -> io::Result<()> {
+        match both_outcomes(line, &mut self.room) {
+            None => self.unreadable(line),
+            Some((expected, got)) if got == expected => {
+                self.tally.agreed();
+                Ok(())
+            }
+            Some((_, got)) => self.differs(line, got),
+        }
+    }
+
+    // Judges the lines of a piece. Only the last piece of an input can end in a short one.
+    fn judge_all(&mut self, piece: &[u8]) -> io::Result<()> {
+        let (lines, short) = piece.as_chunks::<LINE>();
+        for line in lines {
+            self.judge(line)?;
+        }
+        if short.is_empty() {
+            return Ok(());
+        }
+        self.unreadable(short)
+    }
+
+    // The last line, with the counts.
+    fn write_counts(&mut self) -> io::Result<()> {
+        let Tally { agree, differ } = self.tally;
+        writeln!(self.writer, "{agree} agree, {differ} do not")
+    }
 }
 
 // Reads until the piece is full or the input has ended, so that a piece is short only at the end, and answers how many bytes it has.
+// No method of `Read` does this into a lent buffer: `read` may stop before, and `read_exact` refuses a short piece.
 fn fill<R: Read>(reader: &mut R, piece: &mut [u8]) -> io::Result<usize>
-    ensures piece_len_unchanged { length piece.new ≡ length piece.old }
-    ensures count { IfOk result (λ n. IsPrefixLen n piece.new) }
+    ensures { IfOk result (λ n. n ≤ length piece.new) }
 {
     let mut at = 0;
     while at < piece.len() {
         let more = reader.read(&mut piece[at..])?;
         if more == 0 {
-            return Ok(at);
+            break;
         }
         at += more;
     }
     Ok(at)
 }
 
-// The last line, with the counts.
-fn write_counts<W: Write>(writer: &mut W, tally: Tally) -> io::Result<()> {
-    writeln!(writer, "{} agree, {} do not", tally.agree, tally.differ)
-}
-
-// Reads a piece and judges its lines; at the end of the input, writes the counts.
-fn turn<R: Read, W: Write>(
-    reader: &mut R,
-    writer: &mut W,
-    tally: Tally,
-    piece: &mut [u8],
-    words: &mut [u64],
-    others: &mut [u64],
-    bytes: &mut [u8],
-) -> io::Result<Tally>
-    requires { (length piece.old ≡ piece_bytes) × Room words.old others.old bytes.old }
-    ensures { (length piece.new ≡ piece_bytes) × Room words.new others.new bytes.new }
-{
-    let n = fill(reader, piece)?;
-    let judged = judge_all(writer, &piece[..n], tally, words, others, bytes)?;
-    if n == piece.len() {
-        return Ok(judged);
-    }
-    write_counts(writer, judged)?;
-    Ok(judged.stopped())
-}
-
-// Takes turns to the end of the input. A proved loop has to end, and nothing says that an input does: this one takes no more turns than a
-// number that no run uses up.
-fn run<R: Read, W: Write>(
-    reader: &mut R,
-    writer: &mut W,
-    piece: &mut [u8],
-    words: &mut [u64],
-    others: &mut [u64],
-    bytes: &mut [u8],
-) -> io::Result<()>
-    requires { (length piece.old ≡ piece_bytes) × Room words.old others.old bytes.old }
-{
-    let mut tally = Tally::new();
+// Reads the input piece by piece and judges its lines, and at its end writes the counts. A proved loop has to end, and nothing says that an
+// input does: this one takes no more turns than a number that no run uses up.
+fn run<R: Read, W: Write>(reader: &mut R, writer: &mut W) -> io::Result<()> {
+    let mut piece = <[u8; PIECE]>::default();
+    let mut replay = Replay::new(writer);
     for _ in 0..u64::MAX {
-        tally = turn(reader, writer, tally, piece, words, others, bytes)?;
-        if !tally.more {
-            return Ok(());
+        let n = fill(reader, &mut piece)?;
+        replay.judge_all(&piece[..n])?;
+        if n < PIECE {
+            return replay.write_counts();
         }
     }
     Ok(())
 }
 
-// Room for a piece.
-fn piece_room() -> [u8; PIECE]
-    ensures { piece_bytes ≡ length result }
-{
-    [0; PIECE]
-}
-
-// Room for the longest list of words.
-fn words_room() -> [u64; 32777]
-    ensures { 32777 ≡ length result }
-{
-    [0; 32777]
-}
-
-// Room for the longest list of bytes.
-fn bytes_room() -> [u8; 32777]
-    ensures { 32777 ≡ length result }
-{
-    [0; 32777]
-}
-
 fn main(rt: HostRuntime) -> io::Result<()> {
-    let mut piece = piece_room();
-    let mut words = words_room();
-    let mut others = words_room();
-    let mut bytes = bytes_room();
-    run(
-        &mut rt.stdin(),
-        &mut rt.stdout(),
-        &mut piece,
-        &mut words,
-        &mut others,
-        &mut bytes,
-    )
+    run(&mut rt.stdin(), &mut rt.stdout())
 }

@@ -10,7 +10,7 @@ use Rattle.prime.specs.Powers.{power}
 use Rattle.prime.proofs.Powers.{power_mod, power_below}
 use Rattle.prime.proofs.Theorems.{inverse_power, power_of_root}
 use Rattle.answers.specs.declared.refusals.Refusal.TheVariants.{InverseOfZero}
-use Rattle.answers.specs.declared.replies.Answer.TheVariants.{Word, Refused}
+use Rattle.std.specs.Prelude.{Ok, Err}
 use Rattle.answers.proofs.Stands.{Stands, held, granted, refused}
 use Rattle.words.specs.Words.{canonical}
 use Rattle.words.proofs.Laws.{canonical_is}
@@ -25,7 +25,7 @@ module _ (x y : ℕ) {r : ℕ} (below : y < 2 ^ 64) (form : r ≡ canonical y) w
   pub power_word : (e : ℕ) → y % P ≡ power P x e → r ≡ power P x e
   power_word e h = form ∙ canonical_is y below ∙ h
 
-  pub inverted : y % P ≡ power P x (P - 2) → eqb (x % P) 0 ≡ false → Inverted x (Word r)
+  pub inverted : y % P ≡ power P x (P - 2) → eqb (x % P) 0 ≡ false → Inverted x (Ok r)
   inverted h z = record {
     answered = granted _ (ap not z) (power_word (P - 2) h) (power_stands x (P - 2));
     product = λ n. ap (λ (i : ℕ). x * i % P) (power_word (P - 2) h) ∙ inverse_power x n;
@@ -38,5 +38,5 @@ module _ (x y : ℕ) {r : ℕ} (below : y < 2 ^ 64) (form : r ≡ canonical y) w
   }
 
 -- and the inverse of zero
-pub not_inverted : (x : ℕ) → eqb (x % P) 0 ≡ true → Inverted x (Refused InverseOfZero)
+pub not_inverted : (x : ℕ) → eqb (x % P) 0 ≡ true → Inverted x (Err InverseOfZero)
 not_inverted x z = record { answered = refused _ InverseOfZero (ap not z); product = λ n. absurd (n (eqb-true (x % P) 0 z)) }

@@ -74,5 +74,5 @@ module _ {x n a b e s : ℕ} (l : Left x n a b e) (square : s % P ≡ b * b % P)
     whole = omega (arith, halves l.base e 1 h);
   }
 
-pub ended : {x n a b e : ℕ} → Left x n a b e → e ≡ 0 → Raised x n a
-ended {n = n} l z = rw (let h : n ≡ l.done = omega (arith, ap (λ (k : ℕ). l.base * k) z) in h) l.done_is
+pub ended : {x n a b e : ℕ} → Left x n a b e → e ≡ 0 → a % P ≡ power P x n
+ended {n = n} l z = rw (let h : n ≡ l.done = omega (arith, ap (λ (k : ℕ). l.base * k) z) in h) l.done_is.power_is

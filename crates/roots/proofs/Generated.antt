@@ -1,24 +1,28 @@
 -- The generators: the table of the source is their rule, and the laws that document 01 gives.
-use mathlib.Core.Path.{◌≡◌, sym, ap, ◌∙◌}
+use mathlib.Core.Path.{◌≡◌, refl, sym, ap, ◌∙◌}
+use mathlib.Core.Bool.{true}
 use Prim.Native.Nat.{ℕ, suc, ◌-◌, ◌*◌, ◌%◌, ◌^◌, ◌<◌}
 use native.Mathlib.Nat.{two-pow-succ}
 use native.Mathlib.Omega.{arith}
 use lib.Dec.{lit<}
+use lib.ListN.{get_or}
+use Rattle.std.specs.Prelude.{◌==◌}
+use Rattle.std.proofs.lemmas.Bool.{eqb-true, agree_below_at}
 use Rattle.prime.specs.Modulus.{P}
 use Rattle.prime.specs.Powers.{power}
 use Rattle.prime.proofs.Fast.{fast, fast_power}
 use Rattle.prime.proofs.Powers.{power_below, power_add}
 use Rattle.roots.specs.Roots.{G, generator_word}
+use Rattle.roots.specs.declared.generators.TheConstants.{TWO_ADIC_GENERATORS}
 
 -- ---- the table
 
--- entry k in the form that the checker computes
-abbrev quick : ℕ → ℕ
-quick k = fast P G (2 ^ (32 - k))
-
--- a word that is the rule's at a key, where the key is the entry's number
-pub at_key : {r bits k : ℕ} → bits ≡ k → r ≡ quick k → r ≡ generator_word bits
-at_key {k = k} h q = q ∙ fast_power P G (2 ^ (32 - k)) ∙ ap generator_word (sym h)
+-- the checker computes each entry, by repeated squaring, and compares
+pub table_at : (k : ℕ) → k < 33 → get_or TWO_ADIC_GENERATORS k 0 ≡ generator_word k
+unfolding fast
+table_at k h =
+    eqb-true _ _ (agree_below_at (λ i. get_or TWO_ADIC_GENERATORS i 0 == fast P G (2 ^ (32 - i))) (λ _. true) 33 k refl h)
+    ∙ fast_power P G (2 ^ (32 - k))
 
 -- ---- the order of G is 2^32: G^(2^31) is not 1 yet, but -1
 

@@ -17,7 +17,7 @@ use Rattle.prime.proofs.Theorems.{power_add}
 use Rattle.prime.proofs.Search.{least_law, least_first, least_only}
 use Rattle.prime.proofs.Choice.{by_eq}
 use Rattle.answers.specs.declared.refusals.Refusal.TheVariants.{NoSquareRoot}
-use Rattle.answers.specs.declared.replies.Answer.TheVariants.{Word, Refused}
+use Rattle.std.specs.Prelude.{Ok, Err}
 use Rattle.answers.proofs.Stands.{Stands, granted, refused}
 use Rattle.roots.specs.Promises.{Rooted}
 use Rattle.roots.specs.Roots.{G, is_square, exponent, root_word}
@@ -72,16 +72,16 @@ root_stands x = record { below = omega (arith, root_below x); element = mod-eq_o
 
 -- ---- what is promised of an answer
 
-pub rooted : (x v : ℕ) → v ≡ root_word x → v * v % P ≡ x % P → Rooted x (Word v)
+pub rooted : (x v : ℕ) → v ≡ root_word x → v * v % P ≡ x % P → Rooted x (Ok v)
 rooted x v e s = record {
   answered = granted (is_square x) ((is_square_lem x).1 (v, s)) e (root_stands x);
   none = λ h. absurd (omega arith);
   squares = λ _. s;
 }
 
-pub zero_rooted : (x : ℕ) → x % P ≡ 0 → Rooted x (Word 0)
+pub zero_rooted : (x : ℕ) → x % P ≡ 0 → Rooted x (Ok 0)
 unfolding root_word
 zero_rooted x z = rooted x 0 (rw (eq-eqb (x % P) 0 z)) (sym z)
 
-pub unrooted : (x : ℕ) → ¬ Square P x → Rooted x (Refused NoSquareRoot)
+pub unrooted : (x : ℕ) → ¬ Square P x → Rooted x (Err NoSquareRoot)
 unrooted x h = record { answered = refused (is_square x) NoSquareRoot (not_square x h); none = λ _. h; squares = λ s. absurd (h s) }

@@ -3,7 +3,7 @@ use Rattle.std.specs.Prelude.{◌≡◌, not, ◌≢◌, ℕ, ◌*◌, ◌%◌, 
 use Rattle.prime.specs.Modulus.{P}
 use Rattle.prime.specs.Powers.{power}
 use Rattle.prime.specs.Residues.{Square}
-use Rattle.answers.specs.declared.replies.Answer.{Answer}
+use Rattle.answers.specs.Answers.{Answer}
 use Rattle.answers.specs.Answers.{refusal_of, word_of}
 use Rattle.answers.specs.Promises.{Held, Answered}
 use Rattle.roots.specs.Roots.{generator_word, inverse_word, seventh_word, is_square, root_word}

@@ -5,7 +5,7 @@ ghost use Rattle.prime.specs.Powers.{power};
 ghost use Rattle.roots.specs.Promises.{Inverted};
 
 use super::powers::{exp_2_31_minus_1, link};
-use answers::{Answer, Refusal};
+use answers::Refusal;
 use words::{as_canonical_u64, is_zero};
 
 // x^(P - 2), by a chain: in binary P - 2 is 31 ones, a zero and 32 ones.
@@ -18,11 +18,11 @@ fn exp_order_minus_2(x: u64) -> u64
 }
 
 // The element whose product with x is 1, canonical; refused for zero.
-pub fn try_inverse(x: u64) -> Answer
+pub fn try_inverse(x: u64) -> Result<u64, Refusal>
     ensures { Inverted x result }
 {
     if is_zero(x) {
-        return Answer::Refused(Refusal::InverseOfZero);
+        return Err(Refusal::InverseOfZero);
     }
-    Answer::Word(as_canonical_u64(exp_order_minus_2(x)))
+    Ok(as_canonical_u64(exp_order_minus_2(x)))
 }

@@ -7,7 +7,7 @@ ghost use Rattle.prime.specs.Powers.{power};
 use words::{mul, square};
 
 // x^exp, by squaring and multiplying.
-#[tactic(auto, using(crate::proofs::Exponents::odd, crate::proofs::Exponents::even))]
+#[tactic(auto, using(crate::proofs::Exponents::started, crate::proofs::Exponents::odd, crate::proofs::Exponents::even, crate::proofs::Exponents::ended))]
 pub(crate) fn exp_u64(x: u64, exp: u64) -> u64
     ensures { result % P ≡ power P x exp }
 {
@@ -25,19 +25,19 @@ pub(crate) fn exp_u64(x: u64, exp: u64) -> u64
 }
 
 // x^(2^log), by repeated squaring.
+#[tactic(auto, using(crate::proofs::Exponents::first, crate::proofs::Exponents::doubled))]
 fn exp_power_of_2(x: u64, log: u64) -> u64
     ensures { result % P ≡ power P x (2 ^ log) }
 {
     let mut res = x;
-    let mut i = 0;
-    while i < log {
+    for _ in 0..log {
         res = square(res);
-        i += 1;
     }
     res
 }
 
 // A link of a chain: y^(2^log) * z, which puts the bits of z's exponent after those of y's.
+#[tactic(auto, using(prime::proofs::Powers::power_mod))]
 pub(crate) fn link(y: u64, log: u64, z: u64) -> u64
     ensures { result % P ≡ power P y (2 ^ log) * z % P }
 {

@@ -5,8 +5,8 @@ ghost use Rattle.prime.specs.Powers.{power};
 ghost use Rattle.answers.specs.Promises.{Held};
 ghost use Rattle.shifts.specs.Shifts.{shift_up_word};
 
-use super::powers_of_two::mul_by_entry;
-use words::{add, neg};
+use super::powers_of_two::power_of_two;
+use words::{add, mul, neg};
 
 // x * 2^exp. In the Goldilocks field 2^96 = -1 and 2^192 = 1 modulo P.
 pub fn mul_2exp_u64(x: u64, exp: u64) -> u64
@@ -15,8 +15,8 @@ pub fn mul_2exp_u64(x: u64, exp: u64) -> u64
     match exp {
         0 => x,
         1 => add(x, x),
-        2..=95 => mul_by_entry(x, exp),
-        96..=191 => mul_by_entry(neg(x), exp - 96),
+        2..=95 => mul(x, power_of_two(exp)),
+        96..=191 => mul(neg(x), power_of_two(exp - 96)),
         _ => mul_2exp_u64(x, exp % 192),
     }
 }

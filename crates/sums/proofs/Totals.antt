@@ -1,19 +1,13 @@
 -- Sums over lists: their bounds over the number of entries, and the steps of the loops that make them.
-use Rattle.std.proofs.Common.{◌≡◌, ℕ, suc, ◌+◌, ◌-◌, ◌*◌, ◌/◌, ◌%◌, ◌^◌, ◌<◌, ◌≤◌, List, [], ◌∷◌, map, length, get_or, drop, refl, ap, map-id, le_trans, le_refl, le_of_suc-le-suc, lt_of_le_of_lt, add-le-add, mul-le-mul_right, add-one, arith, lit<, lit≤, drop_of_length-le, drop-cons, shr_lt, w64, Fits}
+use Rattle.std.proofs.Common.{◌≡◌, ℕ, zero, suc, ◌+◌, ◌-◌, ◌*◌, ◌/◌, ◌%◌, ◌^◌, ◌<◌, ◌≤◌, List, [], ◌∷◌, map, length, get_or, take, refl, ap, map-id, le_trans, le_refl, le_of_suc-le-suc, lt_of_le_of_lt, add-le-add, mul-le-mul_right, arith, lit<, lit≤, shr_lt}
+use Rattle.std.proofs.lemmas.Grind.{common_steps}
+use Rattle.std.proofs.lemmas.List.Recursion.{is_sum_by}
 use Rattle.prime.specs.Modulus.{P}
 use Rattle.prime.specs.Lists.{Each}
 use Rattle.limbs.specs.Limbs.{largest}
 use Rattle.limbs.proofs.Products.{product_below, product_most}
 use Rattle.words.specs.Words.{Words}
 use Rattle.sums.specs.Sums.{limit, total, products, low_sum, high_sum}
-
--- what is known of a slice of words, by place; so entry by entry
-abbrev pub Slice : List ℕ → Type 0
-Slice ws = (i : ℕ) → Fits w64 (get_or ws i 0)
-
-pub each_word : (ws : List ℕ) → Slice ws → Words ws
-each_word [] h = tt
-each_word (w ∷ ws) h = ((h 0).fits, each_word ws (λ i. h (suc i)))
 
 -- ---- bounds, over the number of entries
 
@@ -64,15 +58,30 @@ module _ (ps : List ℕ) (e : Products ps) where
 
 -- ---- the steps of the loops
 
--- a sum s so far, and what is left from i on, make the whole
-module _ (ws : List ℕ) (i s : ℕ) (e : s + total (drop i ws) ≡ total ws) where
-  total_next : i < length ws → total (drop i ws) ≡ get_or ws i 0 + total (drop (i + 1) ws)
-  unfolding total
-  total_next h = rw (add-one i, drop-cons ws i 0 h)
+-- one word more
+pub total_more : (ws : List ℕ) (i : ℕ) → i < length ws → total (take (i + 1) ws) ≡ total (take i ws) + get_or ws i 0
+unfolding total
+total_more ws i h = grind (arith, common_steps, is_sum_by total (λ x. x) refl (λ _ _. refl))
 
-  pub total_step : i < length ws → {r : ℕ} → r ≡ s + get_or ws i 0 → r + total (drop (i + 1) ws) ≡ total ws
-  total_step h f = omega (arith, total_next h)
+-- one pair of two lists
+product_at : (xs ys : List ℕ) (i : ℕ) → i < length xs → i < length ys → get_or (products xs ys) i 0 ≡ get_or xs i 0 * get_or ys i 0
+unfolding products
+product_at [] [] i h k = omega arith
+product_at [] (y ∷ ys) i h k = omega arith
+product_at (x ∷ xs) [] i h k = omega arith
+product_at (x ∷ xs) (y ∷ ys) zero h k = refl
+product_at (x ∷ xs) (y ∷ ys) (suc i) h k = product_at xs ys i (omega arith) (omega arith)
 
-  pub total_end : length ws ≤ i → s ≡ total ws
-  unfolding total
-  total_end h = omega (arith, rw (drop_of_length-le ws h) at e)
+-- the sum of a part f of each entry: one entry more
+part_more : (f : ℕ → ℕ) (ps : List ℕ) (i : ℕ) → i < length ps → total (map f (take (i + 1) ps)) ≡ total (map f (take i ps)) + f (get_or ps i 0)
+unfolding total
+part_more f ps i h = grind (arith, common_steps, is_sum_by (λ (l : List ℕ). total (map f l)) f refl (λ _ _. refl))
+
+-- the same of each product: one pair more
+pub part_at : (f : ℕ → ℕ) (xs ys : List ℕ) (i : ℕ) → length xs ≡ length ys → i < length xs
+    → total (map f (take (i + 1) (products xs ys))) ≡ total (map f (take i (products xs ys))) + f (get_or xs i 0 * get_or ys i 0)
+part_at f xs ys i e h = rw (← product_at xs ys i h (omega arith)) (part_more f (products xs ys) i (omega (arith, products_length xs ys e)))
+
+-- the products of all pairs
+pub all_products : (xs ys : List ℕ) (n : ℕ) → length xs ≡ length ys → length xs ≤ n → take n (products xs ys) ≡ products xs ys
+all_products xs ys n e h = grind (arith, common_steps, products_length)

@@ -1,7 +1,7 @@
 -- The promises of the contracts, each under its name.
 use Rattle.std.specs.Prelude.{ℕ, ◌%◌, List, length, ◌==◌, nat_le}
 use Rattle.prime.specs.Modulus.{P}
-use Rattle.answers.specs.declared.replies.Answer.{Answer}
+use Rattle.answers.specs.Answers.{Answer}
 use Rattle.answers.specs.Promises.{Answered}
 use Rattle.sums.specs.Sums.{limit, total, sum_word, products, dot_word, dot_refusal}
 

@@ -1,20 +1,16 @@
 -- A number in decimal: its digits make the number again, are as few as can be, and the first is no zero unless the number is 0.
 use mathlib.Core.Path.{◌≡◌, refl, sym, ap, ◌∙◌}
-use mathlib.Core.Logic.{⊎_elim}
-use mathlib.Core.List.{[], ◌∷◌, ◌++◌}
-use Prim.Native.Nat.{ℕ, zero, suc, ◌-◌, ◌/◌, ◌%◌, ◌^◌, ◌<◌, ◌≤◌, max}
-use native.Mathlib.Nat.{mod-eq_of_lt, lt_of_lt_of_le, pow-le-pow_right, eq-zero-or-pos}
-use native.Mathlib.Numerals.{unary_clauses}
+use mathlib.Core.List.{List, [], ◌∷◌, ◌++◌}
+use Prim.Native.Nat.{ℕ, zero, suc, ◌+◌, ◌/◌, ◌%◌, ◌^◌, ◌<◌, ◌≤◌, max}
+use native.Mathlib.Nat.{mod-eq_of_lt, lt_of_lt_of_le, pow-le-pow_right}
 use native.Mathlib.Omega.{arith}
-use lib.ListN.{length, get_or, drop, replicate, get_or-append}
-use Rattle.text.specs.Digits.{glyph, digit, digits, made}
+use borrow.Author.Tests.{lt-ltb}
+use lib.ListN.{length, get_or, length-append, get_or-append}
+use Rattle.std.specs.Fmt.{decimal as Fmt·decimal}
+use Rattle.std.proofs.lemmas.Fmt.{decimal_by_steps_wide}
+use Rattle.text.specs.Digits.{glyph, digits, made}
 use Rattle.text.specs.Decimals.{places, decimal}
-use Rattle.text.proofs.DigitLaws.{digit_glyph, length_digits, made_digits}
-
-pub places_zero : (k : ℕ) → places k 0 ≡ 0
-unfolding places
-places_zero zero = refl
-places_zero (suc k) = refl
+use Rattle.text.proofs.DigitLaws.{length_digits, made_digits}
 
 -- the places hold the number, and no more of them are there than it takes
 places_hold : (k n : ℕ) → n < 10 ^ k → n < 10 ^ places k n
@@ -29,12 +25,6 @@ places_few zero j n h = omega arith
 places_few (suc k) j zero h = omega arith
 places_few (suc k) zero (suc n) h = absurd (omega arith)
 places_few (suc k) (suc j) (suc n) h = omega (arith, places_few k j (suc n / 10) (omega arith))
-
--- what stands behind the first n of k zeros
-pub drop_zeros : (n k : ℕ) → drop {A = ℕ} n (replicate k 0) ≡ replicate (k - n) 0
-drop_zeros zero k = simp unary_clauses
-drop_zeros (suc n) zero = let e : 0 - suc n ≡ 0 = omega arith in rw e refl
-drop_zeros (suc n) (suc k) = simp unary_clauses (drop_zeros n k)
 
 pub decimal_count : (n : ℕ) → length (decimal n) ≡ max 1 (places 20 n)
 unfolding decimal
@@ -51,26 +41,39 @@ places_some zero n p h = omega arith
 places_some (suc k) zero p h = omega arith
 places_some (suc k) (suc n) p h = omega arith
 
-alone : (k n b : ℕ) → n ≡ 0 → get_or (digits 10 (places k n) n ++ (b ∷ [])) 0 0 ≡ b
-unfolding digits
-alone k n b e = rw (e, places_zero k) refl
+-- a number of one digit, and one of more: all but its last digit, and that
+one_digit : (k n : ℕ) → n < 10 → digits 10 (max 1 (places k n)) n ≡ (48 + n) ∷ []
+unfolding places digits glyph
+one_digit k n h =
+    let e : n % 10 ≡ n = omega arith in
+    let one : max 1 (places k n) ≡ 1 = omega (arith, places_few k 1 n (omega arith)) in
+    rw (one, e, lt-ltb n 10 h) refl
 
-first_place : (k n : ℕ) → 0 < n → n < 10 ^ k → get_or (digits 10 (places k n) n) 0 0 ≡ 48 → ⊥
-unfolding places digits digit
-first_place zero n p h e = omega arith
-first_place (suc k) zero p h e = omega arith
-first_place (suc k) (suc n) p h e =
-    let q = suc n / 10 in
-    let front = digits 10 (places k q) q in
-    let last = glyph (suc n % 10) in
-    ⊎_elim
-    (λ z.
-    let d : suc n % 10 ≡ 0 = sym (digit_glyph (suc n % 10) (omega arith)) ∙ ap digit (sym (alone k q last z) ∙ e) in
-    omega arith)
-    (λ z.
-    let l : 0 < length front = omega (arith, length_digits 10 (places k q) q, places_some k q z (omega arith)) in
-    first_place k q z (omega arith) (sym (get_or-append front (last ∷ []) 0 0 l) ∙ e))
-    (eq-zero-or-pos q)
+last_behind : (k n : ℕ) → 10 ≤ n → n < 10 ^ suc k → digits 10 (max 1 (places (suc k) n)) n ≡ digits 10 (max 1 (places k (n / 10))) (n / 10) ++ ((48 + n % 10) ∷ [])
+unfolding places digits glyph
+last_behind k zero l h = absurd (omega arith)
+last_behind k (suc n) l h =
+    let e : max 1 (places k (suc n / 10)) ≡ places k (suc n / 10) = omega (arith, places_some k (suc n / 10) (omega arith) (omega arith)) in
+    let m : max 1 (suc (places k (suc n / 10))) ≡ suc (places k (suc n / 10)) = omega arith in
+    rw (m, e, lt-ltb (suc n % 10) 10 (omega arith)) refl
+
+-- The library writes a number as `decimal` does.
+pub same_decimal : (n : ℕ) → n < 10 ^ 20 → Fmt·decimal n ≡ decimal n
+unfolding decimal
+same_decimal n h =
+    decimal_by_steps_wide (λ m ds. (k : ℕ) → m < 10 ^ k → ds ≡ digits 10 (max 1 (places k m)) m)
+    (λ m l k f. sym (one_digit k m l))
+    more n (omega arith) 20 h
+  where
+    more : (m : ℕ) (ds : List ℕ) → 10 ≤ m → ((k : ℕ) → m / 10 < 10 ^ k → ds ≡ digits 10 (max 1 (places k (m / 10))) (m / 10)) → (k : ℕ) → m < 10 ^ k → ds ++ ((48 + m % 10) ∷ []) ≡ digits 10 (max 1 (places k m)) m
+    more m ds l p zero f = absurd (omega arith)
+    more m ds l p (suc k) f = ap (λ front. front ++ ((48 + m % 10) ∷ [])) (p k (omega arith)) ∙ sym (last_behind k m l f)
+
+-- The library's text of a number begins with a digit, and not with `0` unless the number is 0.
+begins : (n : ℕ) → n < 10 ^ 64 → (0 < length (Fmt·decimal n)) × (0 < n → 48 < get_or (Fmt·decimal n) 0 0)
+begins = decimal_by_steps_wide (λ m ds. (0 < length ds) × (0 < m → 48 < get_or ds 0 0))
+    (λ m l. (omega arith, λ p. omega arith))
+    (λ m ds l h. (omega (arith, length-append ds ((48 + m % 10) ∷ [])), λ p. omega (arith, get_or-append ds ((48 + m % 10) ∷ []) 0 0 h.0, h.1 (omega arith))))
 
 -- `0` and `16`.
 pub zero_and_sixteen : (decimal 0 ≡ 48 ∷ []) × (decimal 16 ≡ 49 ∷ 54 ∷ [])
@@ -88,7 +91,4 @@ module _ (n : ℕ) (h : n < 10 ^ 20) where
 
   -- The first is no `0`, but of 0 itself.
   pub first_decimal : 0 < n → get_or (decimal n) 0 0 ≡ 48 → ⊥
-  unfolding decimal
-  first_decimal p =
-      let e : max 1 (places 20 n) ≡ places 20 n = omega (arith, places_some 20 n p h) in
-      rw e (first_place 20 n p h)
+  first_decimal p e = omega (arith, rw (same_decimal n h) at (begins n (omega arith)).1 p)

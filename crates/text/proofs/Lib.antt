@@ -2,4 +2,5 @@
 pub mod NameLaws
 pub mod DigitLaws
 pub mod DecimalLaws
+pub mod Reading
 pub mod Turns

@@ -1,6 +1,5 @@
 -- Numbers in decimal.
-use Rattle.std.specs.Prelude.{◌≡◌, List, ◌++◌, ℕ, zero, suc, ◌-◌, ◌/◌, max, length, replicate}
-use Rattle.text.specs.declared.decimals.Numeral.{Numeral}
+use Rattle.std.specs.Prelude.{List, ℕ, zero, suc, ◌/◌, max}
 use Rattle.text.specs.Digits.{digits}
 
 -- How many decimal digits n has with no zero in front, of k at most: 0 has none.
@@ -12,8 +11,3 @@ places (suc k) (suc n) = suc (places k (suc n / 10))
 -- A number below 10^20, and so any u64, in decimal: as many digits as it has, and one for 0.
 unfoldable pub decimal : ℕ → List ℕ
 decimal n = digits 10 (max 1 (places 20 n)) n
-
--- The promise of `decimal`: r is the number n in decimal, with zeros behind.
-pub record Spells (n : ℕ) (r : Numeral) : Type 0 where
-  pub count : r.len ≡ length (decimal n)
-  pub bytes : r.text ≡ decimal n ++ replicate (20 - length (decimal n)) 0

@@ -1,5 +1,5 @@
 -- Digits, the bytes that write them, and numbers in digits.
-use Rattle.std.specs.Prelude.{cond, List, [], ◌∷◌, ◌++◌, ℕ, zero, suc, ◌+◌, ◌-◌, ◌*◌, ◌/◌, ◌%◌, nat_lt}
+use Rattle.std.specs.Prelude.{◌≡◌, cond, List, [], ◌∷◌, ◌++◌, ℕ, zero, suc, ◌+◌, ◌-◌, ◌*◌, ◌/◌, ◌%◌, ◌<◌, ◌≤◌, length, take, drop, nat_lt, All}
 
 -- The byte of an "uppercase hex digit": `0` to `9`, then `A` to `F`.
 unfoldable pub glyph : ℕ → ℕ
@@ -27,3 +27,11 @@ hex k n = digits 16 k n
 unfoldable pub made : ℕ → ℕ → List ℕ → ℕ
 made base n [] = n
 made base n (b ∷ bs) = made base (n * base + digit b) bs
+
+-- These bytes are a word in hex: up to 16 of them, and each writes a digit.
+abbrev pub IsWord : List ℕ → Type 0
+IsWord bytes = (length bytes ≤ 16) × All (λ b. digit b < 16) bytes
+
+-- These bytes are a column with a word in it: a space, and then the word.
+abbrev pub IsColumn : List ℕ → Type 0
+IsColumn bytes = (take 1 bytes ≡ 32 ∷ []) × IsWord (drop 1 bytes)

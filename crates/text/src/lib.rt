@@ -1,15 +1,14 @@
-// The bytes of a line of text: digits, names, and numbers in decimal. What is done with a line is for the crates above.
+// The bytes of a line of text: digits, words in hex, and numbers in decimal. What is done with a line is for the crates above.
 #![tactic(auto)]
 
 mod decimals;
 mod digits;
-mod names;
 
-// A hex digit, and the 16 of a word.
-pub use digits::{digit, spell_word};
-
-// Whether two names are the same.
-pub use names::same;
+// A hex digit, and a word: read from a column of up to 16 digits, and written in 16.
+pub use digits::{digit, hex, read_column};
 
 // A number in decimal.
-pub use decimals::{Numeral, decimal};
+pub use decimals::decimal;
+
+// The byte that ends a line.
+pub const LINE_END: u8 = b'\n';

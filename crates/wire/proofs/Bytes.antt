@@ -1,12 +1,16 @@
 -- Bytes and the number that they make, the low byte first: each is got from the other.
 use mathlib.Core.Path.{◌≡◌, refl, sym, ap, ap₂, ◌∙◌}
 use mathlib.Core.List.{List, [], ◌∷◌, ◌++◌}
-use Prim.Native.Nat.{ℕ, zero, suc, ◌+◌, ◌*◌, ◌/◌, ◌^◌, ◌<◌}
+use Prim.Native.Nat.{ℕ, zero, suc, ◌+◌, ◌*◌, ◌/◌, ◌%◌, ◌^◌, ◌<◌}
 use native.Mathlib.Omega.{arith}
+use Rattle.std.proofs.Math.Nat.{pow-suc, div-div-eq-div-mul}
 use lib.ListN.{length, get_or, take, drop, drop_of_length-le}
 use lib.Seq.{drop-cons}
 use Rattle.prime.specs.Lists.{Each}
-use Rattle.wire.specs.Wire.{bytes_of, number_of}
+use Rattle.std.specs.Int.{w64, byte_at, bytes_low_first, to_le_bytes}
+use Rattle.words.specs.Words.{canonical}
+use Rattle.words.proofs.Laws.{canonical_is}
+use Rattle.wire.specs.Wire.{bytes_of, number_of, element_bytes}
 
 -- the number of the k bytes from the i-th on, read by their places
 abbrev pub number_from : ℕ → ℕ → List ℕ → ℕ
@@ -21,6 +25,22 @@ number_from_lem (suc k) i bs h =
 
 pub number_read : (k : ℕ) (bs : List ℕ) {r : ℕ} → length bs ≡ k → r ≡ number_from k 0 bs → r ≡ number_of bs
 number_read k bs h e = e ∙ number_from_lem k 0 bs (omega arith)
+
+-- the library's bytes of a number, from the i-th on
+low_first : (k i n : ℕ) → bytes_low_first i k n ≡ bytes_of k (n / 256 ^ i)
+unfolding bytes_of
+low_first zero i n = refl
+low_first (suc k) i n = ap₂ ◌∷◌ (byte i) (low_first k (suc i) n ∙ ap (bytes_of k) rest)
+  where
+    byte : (j : ℕ) → byte_at j n ≡ n / 256 ^ j % 256
+    byte zero = omega arith
+    byte (suc j) = refl
+
+    rest : n / 256 ^ suc i ≡ n / 256 ^ i / 256
+    rest = rw (pow-suc 256 i) (sym (div-div-eq-div-mul n (256 ^ i) 256))
+
+pub element_written : {bs : List ℕ} {c x : ℕ} → bs ≡ to_le_bytes w64 c → c ≡ canonical x → x < 2 ^ 64 → bs ≡ element_bytes x
+element_written {c = c} {x = x} e f h = e ∙ low_first 8 0 c ∙ ap (bytes_of 8) (omega (arith, canonical_is x h))
 
 pub length_bytes : (k n : ℕ) → length (bytes_of k n) ≡ k
 unfolding bytes_of

@@ -1,61 +1,70 @@
--- Groups of 8 bytes, one after the other, and the first that is P or more.
+-- Groups of 8 bytes, one after the other, the first that is P or more, and the bytes of words: what one turn of each loop does.
 use mathlib.Core.Path.{◌≡◌, refl, sym, ap, ◌∙◌}
-use mathlib.Core.List.{List, [], ◌∷◌}
+use mathlib.Core.List.{List, [], ◌∷◌, ◌++◌, append_assoc, append-nil}
 use Prim.Native.Nat.{ℕ, zero, suc, ◌+◌, ◌-◌, ◌*◌, ◌<◌, ◌≤◌}
-use native.Mathlib.Nat.{add-sub_cancel_left}
 use native.Mathlib.Omega.{arith}
-use borrow.Author.Tests.{lt-ltb, le-ltb}
-use lib.ListN.{length, get_or, take, drop, drop_of_length-le}
+use Rattle.std.proofs.lemmas.Bool.Decides.{nat_tests}
+use borrow.Rule.Slice.PartMut.{put_mid}
+use lib.ListN.{length, get_or, take, drop, set}
 use lib.Seq.{drop-drop}
+use Rattle.std.proofs.lemmas.List.{take_more_set}
+use Rattle.std.proofs.lemmas.Slice.{take-put_mid}
 use Rattle.prime.specs.Modulus.{P}
-use Rattle.wire.specs.Wire.{number_of, groups, first_bad}
-use Rattle.wire.proofs.Fronts.{drop_next}
-
-length_groups : (n : ℕ) (bs : List ℕ) → length (groups n bs) ≡ n
-unfolding groups
-length_groups zero bs = refl
-length_groups (suc n) bs = ap suc (length_groups n (drop 8 bs))
-
-group_at : (n i : ℕ) (bs : List ℕ) → i < n → get_or (groups n bs) i 0 ≡ number_of (take 8 (drop (8 * i) bs))
-unfolding groups
-group_at zero i bs h = omega arith
-group_at (suc n) zero bs h = refl
-group_at (suc n) (suc i) bs h = group_at n i (drop 8 bs) (omega arith) ∙ ap (λ (l : List ℕ). number_of (take 8 l)) further
-  where
-    further : drop (8 * i) (drop 8 bs) ≡ drop (8 * suc i) bs
-    further = let e : 8 * suc i ≡ 8 + 8 * i = omega arith in rw e (drop-drop (8 * i) 8 bs)
+use Rattle.wire.specs.Wire.{number_of, element_bytes, encoded, groups, first_bad}
+use Rattle.wire.proofs.Bytes.{length_bytes}
 
 -- the part of the bytes that holds group i
 abbrev pub part : ℕ → List ℕ → List ℕ
 part i bs = take (8 * i + 8 - 8 * i) (drop (8 * i) bs)
 
-module _ (n i : ℕ) (bs : List ℕ) where
-  -- what is read of that part is the next group
-  pub group_next : {r : ℕ} → i < n → r ≡ number_of (part i bs) → drop i (groups n bs) ≡ r ∷ drop (i + 1) (groups n bs)
-  group_next h e =
-      drop_next (groups n bs) i (rw (length_groups n bs) h)
-      ∙ ap (λ (g : ℕ). g ∷ drop (i + 1) (groups n bs)) (group_at n i bs h ∙ rw (add-sub_cancel_left (8 * i) 8) at (sym e))
+-- the bytes from the next group on
+drop_on : (i : ℕ) (bs : List ℕ) → drop (8 * i) (drop 8 bs) ≡ drop (8 * suc i) bs
+drop_on i bs = grind (arith, drop-drop (8 * i) 8 bs)
 
-  pub groups_past : n ≤ i → drop i (groups n bs) ≡ []
-  groups_past h = drop_of_length-le (groups n bs) {i = i} (rw (length_groups n bs) h)
+next_part : (i : ℕ) (bs : List ℕ) → drop 8 (drop (8 * i) bs) ≡ drop (8 * (i + 1)) bs
+next_part i bs = grind (arith, drop-drop 8 (8 * i) bs)
 
--- no group before i is bad: the first bad one is counted on from there
-pub record Passed (n i : ℕ) (bs : List ℕ) : Type 0 where
-  pub within : i ≤ n
-  pub counts : i + first_bad (drop i (groups n bs)) ≡ first_bad (groups n bs)
+-- one group more, at the end
+groups_more : (i : ℕ) (bs : List ℕ) → groups (suc i) bs ≡ groups i bs ++ number_of (take 8 (drop (8 * i) bs)) ∷ []
+unfolding groups
+groups_more zero bs = refl
+groups_more (suc i) bs =
+    ap (◌∷◌ (number_of (take 8 bs)))
+    (groups_more i (drop 8 bs) ∙ ap (λ (l : List ℕ). groups i (drop 8 bs) ++ number_of (take 8 l) ∷ []) (drop_on i bs))
 
-pub passed_none : (n : ℕ) (bs : List ℕ) → Passed n 0 bs
-passed_none n bs = omega arith
+pub groups_turn : (i : ℕ) (bs ws : List ℕ) {r : ℕ} → take i ws ≡ groups i bs → i < length ws → r ≡ number_of (part i bs)
+    → take (i + 1) (set ws i r) ≡ groups (i + 1) bs
+groups_turn i bs ws {r} f h e = grind (arith, take_more_set ws i r h, groups_more i bs)
 
-module _ {n i : ℕ} {bs : List ℕ} (p : Passed n i bs) where
-  pub good_next : {r : ℕ} → i < n → r ≡ number_of (part i bs) → r < P → Passed n (i + 1) bs
+-- where the groups before i are good, the first bad one is found i groups on, in what is left
+module _ (n i : ℕ) (bs : List ℕ) {r : ℕ} where
+  groups_left : i < n → r ≡ number_of (part i bs) → groups (n - i) (drop (8 * i) bs) ≡ r ∷ groups (n - (i + 1)) (drop (8 * (i + 1)) bs)
+  unfolding groups
+  groups_left h e = let some : n - i ≡ suc (n - (i + 1)) = omega arith in rw some (grind (arith, next_part i bs))
+
+  pub good_turn : i < n → r ≡ number_of (part i bs) → r < P
+      → first_bad (groups (n - i) (drop (8 * i) bs)) ≡ suc (first_bad (groups (n - (i + 1)) (drop (8 * (i + 1)) bs)))
   unfolding first_bad
-  good_next {r} h e b = omega (arith, rw (lt-ltb r P b) at (ap first_bad (group_next n i bs h e)))
+  good_turn h e g = grind (arith, nat_tests, groups_left h e)
 
-  pub bad_next : {r : ℕ} → i < n → r ≡ number_of (part i bs) → P ≤ r → i ≡ first_bad (groups n bs)
+  pub bad_found : i < n → r ≡ number_of (part i bs) → P ≤ r → first_bad (groups (n - i) (drop (8 * i) bs)) ≡ 0
   unfolding first_bad
-  bad_next {r} h e b = omega (arith, rw (le-ltb r P b) at (ap first_bad (group_next n i bs h e)))
+  bad_found h e g = grind (arith, nat_tests, groups_left h e)
 
-  pub none_bad : n ≤ i → n ≡ first_bad (groups n bs)
-  unfolding first_bad
-  none_bad h = omega (arith, ap first_bad (groups_past n i bs h))
+pub none_left : (n i : ℕ) (bs : List ℕ) → n ≤ i → first_bad (groups (n - i) bs) ≡ 0
+unfolding first_bad groups
+none_left n i bs h = grind arith
+
+-- one word more, at the end
+encoded_more : (i : ℕ) (ws : List ℕ) → i < length ws → encoded (take (suc i) ws) ≡ encoded (take i ws) ++ element_bytes (get_or ws i 0)
+unfolding encoded
+encoded_more i [] h = absurd (omega arith)
+encoded_more zero (w ∷ ws) h = append-nil (element_bytes w)
+encoded_more (suc i) (w ∷ ws) h =
+    ap (◌++◌ (element_bytes w)) (encoded_more i ws (omega arith)) ∙ sym (append_assoc (element_bytes w) (encoded (take i ws)) _)
+
+pub words_turn : (i : ℕ) (ws bs vs : List ℕ) → take (8 * i) bs ≡ encoded (take i ws) → i < length ws → length bs ≡ 8 * length ws
+    → vs ≡ element_bytes (get_or ws i 0) → take (8 * (i + 1)) (put_mid (8 * i) (8 * i + 8 - 8 * i) bs vs) ≡ encoded (take (i + 1) ws)
+words_turn i ws bs vs f h l e =
+    let to : 8 * (i + 1) ≡ 8 * i + length vs = omega (arith, ap length e ∙ length_bytes 8 _) in
+    grind (arith, take-put_mid (8 * i) (8 * i + 8 - 8 * i) bs vs (8 * (i + 1)) to (omega arith), encoded_more i ws h)

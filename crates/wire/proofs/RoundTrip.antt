@@ -1,16 +1,15 @@
 -- What is written is read back, and bytes that are read with no group refused are those that would be written.
 use mathlib.Core.Path.{◌≡◌, refl, ap, ap₂, ◌∙◌}
-use mathlib.Core.Bool.{Bool, true, false, cond}
+use mathlib.Core.Bool.{cond}
 use mathlib.Core.List.{List, [], ◌∷◌, ◌++◌, map}
 use Prim.Native.Nat.{ℕ, zero, suc, ◌*◌, ◌%◌, ◌<◌, ◌≤◌}
 use native.Mathlib.Nat.{mod-eq_of_lt}
 use native.Mathlib.Omega.{arith}
-use borrow.Author.Tests.{lt-ltb, eqb-true, ltb-false}
-use lib.Dec.{eqb, leb, ltb}
+use Rattle.std.proofs.lemmas.Bool.Decides.{nat_tests}
+use lib.Dec.{ltb}
 use lib.ListN.{length, take, drop, length-append, length-drop, take-append-drop}
 use lib.Seq.{length-take-le}
 use Rattle.prime.specs.Modulus.{P}
-use Rattle.prime.proofs.Choice.{by_lt}
 use Rattle.wire.specs.Wire.{bytes_of, number_of, element_bytes, encoded, groups, first_bad}
 use Rattle.wire.specs.Refusals.{limit, reading}
 use Rattle.wire.proofs.Bytes.{Bytes, length_bytes, bytes_below, number_of_bytes, bytes_of_number, bytes_append, bytes_take, bytes_drop}
@@ -39,7 +38,7 @@ groups_encoded (w ∷ ws) = ap₂ ◌∷◌ (number_of_element w) (groups_encode
 good_rests : (ws : List ℕ) → first_bad (map (λ (w : ℕ). w % P) ws) ≡ length ws
 unfolding first_bad
 good_rests [] = refl
-good_rests (w ∷ ws) = rw (lt-ltb (w % P) P (omega arith)) (ap suc (good_rests ws))
+good_rests (w ∷ ws) = grind (arith, nat_tests, good_rests ws)
 
 pub none_bad_encoded : (ws : List ℕ) → first_bad (groups (length ws) (encoded ws)) ≡ length ws
 none_bad_encoded ws = ap first_bad (groups_encoded ws) ∙ good_rests ws
@@ -48,7 +47,7 @@ none_bad_encoded ws = ap first_bad (groups_encoded ws) ∙ good_rests ws
 
 -- where no group is bad, the first is below P and none after it is bad
 first_good : (g n f : ℕ) → suc n ≤ cond (ltb g P) (suc f) 0 → (g < P) × (n ≤ f)
-first_good g n f = by_lt (λ (m : ℕ). suc n ≤ m → (g < P) × (n ≤ f)) g P (λ t h. omega arith) (λ t h. omega arith)
+first_good g n f h = grind (arith, nat_tests)
 
 pub encoded_groups : (n : ℕ) (bs : List ℕ) → Bytes bs → length bs ≡ 8 * n → n ≤ first_bad (groups n bs) → encoded (groups n bs) ≡ bs
 unfolding encoded groups first_bad
@@ -65,15 +64,11 @@ encoded_groups (suc n) bs b h f =
         ap (bytes_of 8) (mod-eq_of_lt good.0)
         ∙ rw (length-take-le 8 bs (omega arith)) at (bytes_of_number (take 8 bs) (bytes_take 8 bs b))
 
--- nothing is refused only if the length fits and no group is bad
-accepted : (t u v : Bool) → ◌≡◌ {A = ℕ} (cond (eqb (cond t (cond u 0 6) 5) 0) (cond v 1 0) (cond t (cond u 0 6) 5)) 0
-    → (u ≡ true) × (v ≡ false)
-accepted true true false e = (refl, refl)
-accepted true true true e = absurd (omega arith)
-accepted true false v e = absurd (omega arith)
-accepted false u v e = absurd (omega arith)
+-- ---- what is refused
 
+pub reading_good : (n : ℕ) (bs : List ℕ) → n ≤ limit → length bs ≡ 8 * n → n ≤ first_bad (groups n bs) → reading n bs ≡ 0
+reading_good n bs h e f = grind (arith, nat_tests)
+
+-- nothing is refused only if the length fits and no group is bad
 pub reading_accepted : (n : ℕ) (bs : List ℕ) → reading n bs ≡ 0 → (length bs ≡ 8 * n) × (n ≤ first_bad (groups n bs))
-reading_accepted n bs e =
-    let a = accepted (leb n limit) (eqb (length bs) (8 * n)) (ltb (first_bad (groups n bs)) n) e in
-    (eqb-true (length bs) (8 * n) a.0, ltb-false (first_bad (groups n bs)) n a.1)
+reading_accepted n bs e = grind (arith, nat_tests)

@@ -9,7 +9,6 @@ use Rattle.prime.specs.Modulus.{P}
 use Rattle.prime.specs.Lists.{Each}
 use Rattle.wire.specs.Wire.{bytes_of, number_of, element_bytes, encoded, groups}
 use Rattle.wire.specs.Refusals.{limit, reading}
-use Rattle.wire.proofs.Outcomes.{reading_good}
 use Rattle.wire.proofs.RoundTrip as trip
 
 -- The groups of what was written are the canonical words, whatever their number.
@@ -20,7 +19,7 @@ groups_written = trip.groups_encoded
 pub reading_written : (ws : List ℕ) → length ws ≤ limit
     → (reading (length ws) (encoded ws) ≡ 0) × (groups (length ws) (encoded ws) ≡ map (λ (w : ℕ). w % P) ws)
 reading_written ws h =
-    (reading_good (length ws) (encoded ws) h (trip.length_encoded ws) (le_of_eq (sym (trip.none_bad_encoded ws))), groups_written ws)
+    (trip.reading_good (length ws) (encoded ws) h (trip.length_encoded ws) (le_of_eq (sym (trip.none_bad_encoded ws))), groups_written ws)
 
 -- Two words have the same 8 bytes exactly if they agree modulo P.
 pub same_bytes : (x y : ℕ) → (element_bytes x ≡ element_bytes y) ↔ (x % P ≡ y % P)

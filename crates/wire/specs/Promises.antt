@@ -1,6 +1,6 @@
 -- The promises of the contracts: refusal, index, and the lent buffer at exit.
 use Rattle.std.specs.Prelude.{◌≡◌, cond, List, ℕ, ◌==◌, length}
-use Rattle.answers.specs.declared.replies.Coded.{Coded}
+use Rattle.answers.specs.Answers.{Coded}
 use Rattle.answers.specs.Answers.{coded_refusal, index_of, kept}
 use Rattle.wire.specs.Wire.{encoded, groups, first_bad}
 use Rattle.wire.specs.Refusals.{sizes, reading}

@@ -1,84 +1,86 @@
 // Lists of words as bytes in a lent buffer, and back.
-ghost use Rattle.std.specs.Prelude.{◌≡◌, ◌*◌, length};
+ghost use Rattle.std.specs.Prelude.{◌≡◌, ◌*◌, ◌<◌, length, MatchOption, MatchResult};
+ghost use Rattle.answers.specs.Answers.{number};
 ghost use Rattle.wire.specs.Wire.{encoded, groups, first_bad};
+ghost use Rattle.wire.specs.Refusals.{sizes};
 ghost use Rattle.wire.specs.Promises.{Encoded, Decoded};
 
 use super::elements::{read_element, write_element};
-use answers::{Coded, Refusal};
+use answers::{Refusal, RefusedAt};
 use words::ORDER_U64;
 
-// The largest number of words that are coded at once.
+// The largest number of words that are coded at once. Sums have a limit of their own, which a later request raises alone.
 const LIMIT: usize = 4096;
 
-// The words, 8 bytes each.
+// Tests that the words are not too many, and then that there are 8 bytes for each.
+fn fits(words: usize, bytes: usize) -> Result<(), Refusal>
+    ensures { MatchResult result (λ _. sizes words bytes ≡ 0) (λ r. sizes words bytes ≡ number r) }
+{
+    if LIMIT < words {
+        return Err(Refusal::TooMany);
+    }
+    if bytes != 8 * words {
+        return Err(Refusal::WrongLength);
+    }
+    Ok(())
+}
+
+// Writes the words, 8 bytes each.
+#[tactic(auto, using(crate::proofs::Groups::words_turn), unfolding(crate::specs::Wire::encoded))]
 fn write_all(words: &[u64], bytes: &mut [u8])
     requires { length bytes.old ≡ 8 * length words.now }
     ensures { bytes.new ≡ encoded words.now }
 {
-    let mut i = 0;
-    while i < words.len() {
-        write_element(words[i], &mut bytes[8 * i..8 * i + 8]);
-        i += 1;
+    for (i, word) in words.iter().enumerate() {
+        write_element(*word, &mut bytes[8 * i..8 * i + 8]);
     }
 }
 
-// The index of the first of n groups that is P or more, n if there is none.
-fn first_bad(bytes: &[u8], n: usize) -> usize
+// The index of the first of n groups that is P or more.
+#[tactic(auto, using(crate::proofs::Groups::good_turn, crate::proofs::Groups::bad_found, crate::proofs::Groups::none_left))]
+fn first_bad(bytes: &[u8], n: usize) -> Option<usize>
     requires { length bytes.now ≡ 8 * n }
-    ensures { result ≡ first_bad (groups n bytes.now) }
+    ensures { MatchOption result (first_bad (groups n bytes.now) ≡ n) (λ i. (i < n) × (first_bad (groups n bytes.now) ≡ i)) }
 {
-    let mut i = 0;
-    while i < n {
+    for i in 0..n {
         if ORDER_U64 <= read_element(&bytes[8 * i..8 * i + 8]) {
-            return i;
+            return Some(i);
         }
-        i += 1;
     }
-    n
+    None
 }
 
-// The groups, as the words that they make.
+// Reads the groups, as the words that they make.
+#[tactic(auto, using(crate::proofs::Groups::groups_turn), unfolding(crate::specs::Wire::groups))]
 fn read_all(bytes: &[u8], words: &mut [u64])
     requires { length bytes.now ≡ 8 * length words.old }
     ensures { words.new ≡ groups (length words.old) bytes.now }
 {
-    let mut i = 0;
-    while i < words.len() {
-        words[i] = read_element(&bytes[8 * i..8 * i + 8]);
-        i += 1;
+    for (i, word) in words.iter_mut().enumerate() {
+        *word = read_element(&bytes[8 * i..8 * i + 8]);
     }
 }
 
 // Writes the words into a buffer of exactly 8 bytes for each.
-#[tactic(auto, using(crate::proofs::Outcomes::too_many, crate::proofs::Outcomes::wrong_buffer, crate::proofs::Outcomes::fitting))]
-pub fn encode(words: &[u64], bytes: &mut [u8]) -> Coded
+pub fn encode(words: &[u64], bytes: &mut [u8]) -> Result<(), RefusedAt>
     ensures { Encoded words.now bytes.old bytes.new result }
 {
-    if LIMIT < words.len() {
-        return Coded::Refused(Refusal::TooMany, 0);
-    }
-    if bytes.len() != 8 * words.len() {
-        return Coded::Refused(Refusal::WrongLength, 0);
-    }
+    fits(words.len(), bytes.len())?;
     write_all(words, bytes);
-    Coded::Done
+    Ok(())
 }
 
 // Reads a word from each 8 bytes. All groups are tested before the first word is written.
-pub fn decode(bytes: &[u8], words: &mut [u64]) -> Coded
+pub fn decode(bytes: &[u8], words: &mut [u64]) -> Result<(), RefusedAt>
     ensures { Decoded bytes.now words.old words.new result }
 {
-    let n = words.len();
-    if LIMIT < n {
-        return Coded::Refused(Refusal::TooMany, 0);
-    }
-    if bytes.len() != 8 * n {
-        return Coded::Refused(Refusal::WrongLength, 0);
-    }
-    let bad = first_bad(bytes, n);
-    if bad < n {
-        return Coded::Refused(Refusal::OutOfRange, bad as u64);
+    fits(words.len(), bytes.len())?;
+    if let Some(index) = first_bad(bytes, words.len()) {
+        return Err(RefusedAt {
+            refusal: Refusal::OutOfRange,
+            index: index as u64,
+        });
     }
     read_all(bytes, words);
-    Coded::Done
+    Ok(())
 }

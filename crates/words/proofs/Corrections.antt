@@ -1,12 +1,11 @@
 -- The two corrections by P, "less P if 2^64 or more" and "plus P if negative": what they do modulo P, and the code that makes them by sums and
 -- differences that wrap. 2^32 - 1 more, wrapping, is P less.
-use Rattle.std.proofs.Common.{◌≡◌, ℕ, ◌+◌, ◌-◌, ◌*◌, ◌%◌, ◌^◌, ◌<◌, ◌≤◌, refl, arith, le-ltb, lt-ltb, le-leb}
-use borrow.Author.Tests.{lt-leb}
+use Rattle.std.proofs.Common.{◌≡◌, ℕ, ◌+◌, ◌-◌, ◌*◌, ◌%◌, ◌^◌, ◌<◌, ◌≤◌, refl, arith, le-ltb, lt-ltb}
 use Rattle.prime.specs.Modulus.{P}
 use Rattle.prime.proofs.Congruence.{same}
 use Rattle.prime.proofs.Choice.{by_lt, by_le}
 use Rattle.answers.proofs.Stands.{Stands}
-use Rattle.words.specs.Words.{less_P, plus_P, add_word, sub_word}
+use Rattle.words.specs.Words.{less_P, plus_P, add_word}
 
 less_none : (n : ℕ) → n < 2 ^ 64 → less_P n ≡ n
 less_none n h = simp (lt-ltb n (2 ^ 64) h)
@@ -46,25 +45,3 @@ module _ (x y s : ℕ) (h : x < 2 ^ 64) (k : y < 2 ^ 64) (e : s ≡ (x + y) % 2 
     pub add_two : o < s → o + (2 ^ 32 - 1) ≡ add_word x y
     unfolding add_word
     add_two m = rw (← wraps_one l, less_one (s + (2 ^ 32 - 1)) (omega arith)) (omega arith)
-
-module _ (x y d : ℕ) (h : x < 2 ^ 64) (k : y < 2 ^ 64) (i : d < 2 ^ 64) (e : (d + y) % 2 ^ 64 ≡ x) where
-  -- a difference that wraps at most once
-  pub difference_none : y ≤ x → d ≡ plus_P x y
-  difference_none l = rw (le-leb y x l) (omega arith)
-
-  pub difference_one : x < y → y ≤ x + P → (o : ℕ) → o < 2 ^ 64 → (o + (2 ^ 32 - 1)) % 2 ^ 64 ≡ d → o ≡ plus_P x y
-  difference_one l m o j f = rw (lt-leb y x l) (omega arith)
-
-  -- `sub`, whose difference wraps not at all, once or twice
-  pub sub_none : y ≤ x → d ≡ sub_word x y
-  unfolding sub_word
-  sub_none l = rw (le-leb y x l) (omega arith)
-
-  module _ (o : ℕ) (j : o < 2 ^ 64) (f : (o + (2 ^ 32 - 1)) % 2 ^ 64 ≡ d) (l : x < y) where
-    pub sub_one : 2 ^ 32 - 1 ≤ d → o ≡ sub_word x y
-    unfolding sub_word
-    sub_one m = rw (lt-leb y x l, le-leb y (x + P) (omega arith)) (omega arith)
-
-    pub sub_two : d < 2 ^ 32 - 1 → o - (2 ^ 32 - 1) ≡ sub_word x y
-    unfolding sub_word
-    sub_two m = rw (lt-leb y x l, lt-leb y (x + P) (omega arith)) (omega arith)

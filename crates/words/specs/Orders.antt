@@ -1,7 +1,7 @@
 -- The three cases of a comparison.
 use Rattle.std.specs.Prelude.{ℕ, cond, ◌==◌, nat_lt}
-use Rattle.words.specs.declared.canonical.Ordering.{Ordering}
-use Rattle.words.specs.declared.canonical.Ordering.TheVariants.{Less, Equal, Greater}
+use Rattle.std.specs.declared.cmp.Ordering.{Ordering}
+use Rattle.std.specs.declared.cmp.Ordering.TheVariants.{Less, Equal, Greater}
 
 -- How the number a compares with the number b.
 abbrev pub order : ℕ → ℕ → Ordering

@@ -2,7 +2,7 @@
 use Rattle.std.specs.Prelude.{ℕ, ◌%◌, ◌^◌, ℤ, nat_le, nat_lt}
 use Rattle.prime.specs.Modulus.{P}
 use Rattle.prime.specs.Elements.{residue}
-use Rattle.answers.specs.declared.replies.Answer.{Answer}
+use Rattle.answers.specs.Answers.{Answer}
 use Rattle.answers.specs.Promises.{Answered}
 use Rattle.words.specs.Words.{canonical, from_i64_word, in_range}
 

@@ -1,4 +1,5 @@
-// The canonical form of a word, and what is seen by it: comparisons. Ports `PrimeField64::as_canonical_u64`, `PartialEq`, `Ord`, `is_zero`.
+// The canonical form of a word, and what is seen by it: comparisons. Ports `PrimeField64::as_canonical_u64`, `PartialEq`, `Ord`, `is_zero`. They are named
+// functions, as document 01 has it: a word is any u64, and u64's own `==` and `<` compare words as they are held.
 ghost use Rattle.std.specs.Prelude.{◌%◌, ◌==◌};
 ghost use Rattle.prime.specs.Modulus.{P};
 ghost use Rattle.answers.specs.Promises.{Held, Seen};
@@ -6,6 +7,7 @@ ghost use Rattle.words.specs.Words.{canonical};
 ghost use Rattle.words.specs.Orders.{order};
 
 use super::constants::ORDER_U64;
+use std::cmp::Ordering;
 
 // x if it is below P, else x - P.
 #[tactic(auto, using(crate::proofs::Returns::canonical_above, crate::proofs::Returns::canonical_below))]
@@ -25,27 +27,13 @@ pub fn eq(x: u64, y: u64) -> bool
     a == b
 }
 
-// How two elements compare.
-#[derive(Clone, Copy)]
-pub enum Ordering {
-    Less,
-    Equal,
-    Greater,
-}
-
 // The order of x and y, as elements.
 pub fn cmp(x: u64, y: u64) -> Ordering
     ensures { Seen (order (canonical x) (canonical y)) (order (x % P) (y % P)) result }
 {
     let a = as_canonical_u64(x);
     let b = as_canonical_u64(y);
-    if a < b {
-        return Ordering::Less;
-    }
-    if a == b {
-        return Ordering::Equal;
-    }
-    Ordering::Greater
+    a.cmp(&b)
 }
 
 // Whether x stands for zero: 0 and P do.

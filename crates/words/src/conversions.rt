@@ -10,7 +10,7 @@ ghost use Rattle.words.specs.Promises.{CheckedU64, CheckedI64};
 use super::canonical::as_canonical_u64;
 use super::constants::ORDER_U64;
 use super::product::reduce128;
-use answers::{Answer, Refusal};
+use answers::Refusal;
 
 // n if n is 0 or more, else P + n.
 pub fn from_i64(int: i64) -> u64
@@ -24,7 +24,7 @@ pub fn from_i64(int: i64) -> u64
     }
 }
 
-// The canonical form of reduce128.
+// The canonical form of reduce128, and as there document 01 has two words.
 pub fn from_u128(lo: u64, hi: u64) -> u64
     ensures { Held (from_u128_word lo hi) (limbs lo hi % P) result }
 {
@@ -33,31 +33,31 @@ pub fn from_u128(lo: u64, hi: u64) -> u64
 
 // x where it is canonical; x at or above P is refused.
 #[tactic(auto, using(crate::proofs::Readers::taken, crate::proofs::Readers::not_taken))]
-pub fn from_canonical_checked_u64(x: u64) -> Answer
+pub fn from_canonical_checked_u64(x: u64) -> Result<u64, Refusal>
     ensures { CheckedU64 x result }
 {
     if x < ORDER_U64 {
-        Answer::Word(x)
+        Ok(x)
     } else {
-        Answer::Refused(Refusal::OutOfRange)
+        Err(Refusal::OutOfRange)
     }
 }
 
 // The ends of the numbers that the checked i64 reader takes, both taken: (P - 1) / 2 on either side of zero.
 const POS_BOUND: i64 = 0x7FFF_FFFF_8000_0000;
 
-const NEG_BOUND: i64 = -0x7FFF_FFFF_8000_0000;
+const NEG_BOUND: i64 = -POS_BOUND;
 
 // n, or P + n where it is negative; out of range it is refused.
 #[tactic(auto, using(crate::proofs::Readers::too_low, crate::proofs::Readers::too_high, crate::proofs::Readers::in_between))]
-pub fn from_canonical_checked_i64(int: i64) -> Answer
+pub fn from_canonical_checked_i64(int: i64) -> Result<u64, Refusal>
     ensures { CheckedI64 int result }
 {
     if int < NEG_BOUND {
-        return Answer::Refused(Refusal::OutOfRange);
+        return Err(Refusal::OutOfRange);
     }
     if POS_BOUND < int {
-        return Answer::Refused(Refusal::OutOfRange);
+        return Err(Refusal::OutOfRange);
     }
-    Answer::Word(from_i64(int))
+    Ok(from_i64(int))
 }

@@ -13,13 +13,13 @@ mod slots;
 pub use constants::ORDER_U64;
 
 // Canonical form and comparison.
-pub use canonical::{Ordering, as_canonical_u64, cmp, eq, is_zero, value};
+pub use canonical::{as_canonical_u64, cmp, eq, is_zero, value};
 
 // Sums, differences, negatives, halves.
 pub use additive::{add, halve, neg, sub};
 
-// Products and their reduction; the one correction of a difference is for the crates above, and no operation.
-pub use product::{mul, reduce128, square, sub_once};
+// Products and their reduction; the reduction of a number in two limbs and the one correction of a difference are for the crates above, and no operations.
+pub use product::{mul, reduce_wide, reduce128, square, sub_once};
 
 // Conversions.
 pub use conversions::{

@@ -3,18 +3,17 @@ ghost use Rattle.std.specs.Prelude.{◌≡◌, ◌+◌, ◌*◌, ◌%◌, ◌^�
 ghost use Rattle.prime.specs.Modulus.{P};
 ghost use Rattle.answers.specs.Promises.{Held};
 ghost use Rattle.limbs.specs.Limbs.{limbs};
-ghost use Rattle.words.specs.Words.{less_P, plus_P, reduce_word, mul_word};
+ghost use Rattle.words.specs.Words.{less_P, plus_P, reduce_word, wide_word, mul_word};
 
 use super::constants::NEG_ORDER;
-use limbs::{high_bits, mul_halves, mul_wide};
-use std::num::{wrapping_add_u64, wrapping_sub_u64};
+use limbs::{Limbs, high_bits, mul_halves, mul_wide};
 
 // x + y, less P if it is 2^64 or more. One correction is enough only where x + y < 2^64 + P.
 fn add_no_canonicalize_trashing_input(x: u64, y: u64) -> u64
     requires { x + y < 2 ^ 64 + P }
     ensures { result ≡ less_P (x + y) }
 {
-    let res_wrapped = wrapping_add_u64(x, y);
+    let res_wrapped = x.wrapping_add(y);
     if x <= res_wrapped {
         res_wrapped
     } else {
@@ -26,15 +25,15 @@ fn add_no_canonicalize_trashing_input(x: u64, y: u64) -> u64
 pub fn sub_once(x: u64, y: u64) -> u64
     ensures { y ≤ x + P → result ≡ plus_P x y }
 {
-    let taken = wrapping_sub_u64(x, y);
+    let taken = x.wrapping_sub(y);
     if y <= x {
         taken
     } else {
-        wrapping_sub_u64(taken, NEG_ORDER)
+        taken.wrapping_sub(NEG_ORDER)
     }
 }
 
-// lo + 2^64 * hi in one word: with hi = hh * 2^32 + hl, lo - hh + hl * (2^32 - 1), since 2^96 = -1 and 2^64 = 2^32 - 1 modulo P.
+// Document 01's operation, of two words: lo + 2^64 * hi in one word. With hi = hh * 2^32 + hl, lo - hh + hl * (2^32 - 1), since 2^96 = -1 and 2^64 = 2^32 - 1 modulo P.
 pub fn reduce128(lo: u64, hi: u64) -> u64
     ensures { Held (reduce_word lo hi) (limbs lo hi % P) result }
 {
@@ -43,12 +42,19 @@ pub fn reduce128(lo: u64, hi: u64) -> u64
     add_no_canonicalize_trashing_input(t0, t1)
 }
 
+// The same of a number in two limbs, for the crates above.
+pub fn reduce_wide(n: Limbs) -> u64
+    ensures { Held (wide_word n) (n % P) result }
+{
+    reduce128(n.lo(), n.hi())
+}
+
 // reduce128 of the full product.
+#[tactic(auto, unfolding(crate::specs::Words::mul_word))]
 pub fn mul(x: u64, y: u64) -> u64
     ensures { Held (mul_word x y) (x * y % P) result }
 {
-    let product = mul_wide(x, y);
-    reduce128(product.lo, product.hi)
+    reduce_wide(mul_wide(x, y))
 }
 
 // mul x, x.

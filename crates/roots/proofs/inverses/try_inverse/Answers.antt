@@ -1,11 +1,8 @@
 -- Zero is refused, and elsewhere the canonical form of x^(P - 2) is the inverse.
 use mathlib.Core.Path.{sym, ◌∙◌}
 use borrow.Author.Rules.{rules}
-use Rattle.roots.proofs.Canonical.{inverted, not_inverted}
+use Rattle.roots.proofs.Canonical.{inverted}
 use Rattle.roots.proofs.inverses.try_inverse.Goals as goal
-
-pub returns-then-is_zero : goal.returns-then-is_zero
-returns-then-is_zero c = not_inverted _ (sym c.is_zero.ensures.element ∙ c.if-is_zero.true)
 
 pub returns : goal.returns
 returns c =

@@ -1,10 +1,6 @@
--- The loop of the search.
-use Prim.Native.Nat.{◌-◌}
+-- The search so far: t2i is t^(2^i), and no power before it is 1.
 use Rattle.roots.proofs.SquareRootSearch.{Searching}
 use Rattle.roots.proofs.square_roots.order_log.Given as goal
 
 abbrev pub invariant-loop-i : goal.invariant-loop-i
-invariant-loop-i l = Searching l.t l.m l.i l.t2i
-
-abbrev pub decreases-loop-i : goal.decreases-loop-i
-decreases-loop-i l = l.m - l.i
+invariant-loop-i l = Searching l.t l.i l.t2i

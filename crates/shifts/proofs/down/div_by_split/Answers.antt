@@ -6,10 +6,6 @@ use Rattle.shifts.proofs.Arms.{split_steps}
 use Rattle.shifts.proofs.PowersOfTwo.{low_room, high_room, taken_room}
 use Rattle.shifts.proofs.down.div_by_split.Goals as goal
 
-pub shift_left-requires : goal.shift_left-requires
-shift_left-requires c =
-    (search rules, omega (arith, low_room _ (search rules) (search rules) 32 _ (search rules) c.low_bits-lo.ensures.1))
-
 pub overflow_add-a : goal.overflow_add-a
 overflow_add-a c =
     let lo = c.low_bits-lo in

@@ -1,5 +1,5 @@
 -- Each arm of the match is the rule.
-use Rattle.std.proofs.Common.{refl, ap₂, ◌∙◌, arith, rules}
+use Rattle.std.proofs.Common.{ap, ap₂, ◌∙◌, arith, rules}
 use Rattle.answers.proofs.Stands.{held}
 use Rattle.words.specs.Words.{mul_word}
 use Rattle.shifts.proofs.Arms.{up_none, up_once, up_table, up_negative, up_rest}
@@ -13,11 +13,11 @@ pub returns-in-1 : goal.returns-in-1
 returns-in-1 t c = held (c.add.ensures.word ∙ up_once _ _ c.in-1.is) (shift_up_stands _ _ (search rules))
 
 pub returns-in-2-to-95 : goal.returns-in-2-to-95
-returns-in-2-to-95 t c = held (c.mul_by_entry.ensures ∙ up_table _ _ (omega arith) (omega arith)) (shift_up_stands _ _ (search rules))
+returns-in-2-to-95 t c = held (c.mul.ensures.word ∙ ap (mul_word c.args.x) c.power_of_two.ensures ∙ up_table _ _ (omega arith) (omega arith)) (shift_up_stands _ _ (search rules))
 
 pub returns-in-96-to-191 : goal.returns-in-96-to-191
 returns-in-96-to-191 t c =
-    held (c.mul_by_entry-in-96-to-191.ensures ∙ ap₂ mul_word c.neg.ensures.word refl ∙ up_negative _ _ (omega arith) (omega arith))
+    held (c.mul-in-96-to-191.ensures.word ∙ ap₂ mul_word c.neg.ensures.word c.power_of_two-in-96-to-191.ensures ∙ up_negative _ _ (omega arith) (omega arith))
     (shift_up_stands _ _ (search rules))
 
 pub returns-in_default : goal.returns-in_default

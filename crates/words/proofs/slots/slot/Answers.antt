@@ -1,13 +1,8 @@
 -- The low bits of the canonical form.
 use Rattle.std.proofs.Common.{ℕ, ◌%◌, ◌^◌, ap, ◌∙◌, rules, le-leb}
-use borrow.Author.Tests.{lt-leb}
-use Rattle.answers.specs.declared.refusals.Refusal.TheVariants.{Above32}
-use Rattle.answers.proofs.Stands.{granted, refused}
+use Rattle.answers.proofs.Stands.{granted}
 use Rattle.words.proofs.Laws.{slot_stands}
 use Rattle.words.proofs.slots.slot.Goals as goal
-
-pub returns-then-k-gt32 : goal.returns-then-k-gt32
-returns-then-k-gt32 c = refused _ Above32 (lt-leb c.args.k 32 (search rules))
 
 pub returns : goal.returns
 returns c =
