@@ -78,7 +78,6 @@ module _ (x y : ℕ) where
       ∙ sym (solve_is (difference (x % P) (y % P) (below_P x)))
 
   limbs_is : limbs x y % P ≡ (x % P + 2 ^ 64 * (y % P)) % P
-  unfolding limbs
   limbs_is = add_same P x (2 ^ 64 * y) (x % P) (2 ^ 64 * (y % P)) (reduced x) (mul_same_right P (2 ^ 64) y (y % P) (reduced y))
 
   -- a factor may be taken modulo P

@@ -10,7 +10,7 @@ use arrayvec::ArrayVec;
 use std::marker::Model;
 use text::LINE_END;
 
-// The first 64 bytes of the open line, and as these contracts see it. With 64 a line is unreadable whatever follows.
+// The first 64 bytes of the open line; contracts see a desk as these bytes. With 64 a line is unreadable whatever follows.
 #[derive(Drop)]
 pub struct Desk {
     line: ArrayVec<u8, 64>,

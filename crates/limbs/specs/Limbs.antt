@@ -2,7 +2,7 @@
 use Rattle.std.specs.Prelude.{ℕ, ◌+◌, ◌-◌, ◌*◌, ◌^◌}
 
 -- The number that two limbs make.
-unfoldable pub limbs : ℕ → ℕ → ℕ
+abbrev pub limbs : ℕ → ℕ → ℕ
 limbs lo hi = lo + 2 ^ 64 * hi
 
 -- The largest product of two numbers of k bits.

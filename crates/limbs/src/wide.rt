@@ -1,5 +1,6 @@
 // Numbers below 2^128 in two limbs: their sums, with the carry between the limbs, and their parts at bit 96.
-ghost use Rattle.std.specs.Prelude.{◌≡◌, ◌+◌, ◌*◌, ◌/◌, ◌%◌, ◌^◌};
+ghost use Rattle.std.specs.Prelude.{◌≡◌, ◌+◌, ◌/◌, ◌%◌, ◌^◌};
+ghost use Rattle.limbs.specs.Limbs.{limbs};
 
 use super::bits::{high_bits, low_bits};
 use std::marker::Model;
@@ -22,10 +23,11 @@ impl Model for Limbs {
     ghost use Rattle.std.specs.Prelude.{ℕ, ◌≡◌, ◌+◌, ◌*◌, ◌/◌, ◌%◌, ◌^◌, ◌<◌};
     ghost use Rattle.std.proofs.Common.{arith, ap₂};
     ghost use Rattle.limbs.specs.declared.wide.Limbs.TheInside.{Inside};
+    ghost use Rattle.limbs.specs.Limbs.{limbs};
 
     ghost Value = { ℕ };
 
-    ghost view = { λ n. n.lo + 2 ^ 64 * n.hi };
+    ghost view = { λ n. limbs n.lo n.hi };
 
     ghost invariant = { λ n. n.lo < 2 ^ 64 };
 
@@ -37,7 +39,7 @@ impl Model for Limbs {
 impl Limbs {
     // The number with these limbs.
     pub fn new(lo: u64, hi: u64) -> Self
-        ensures { result ≡ lo + 2 ^ 64 * hi }
+        ensures { result ≡ limbs lo hi }
     {
         Self { lo, hi }
     }

@@ -70,7 +70,7 @@ folded : (t lo hi : ℕ) → t % P ≡ (lo + (P - 1) * (hi / 2 ^ 32)) % P → (t
 folded t lo hi e = add_same P t _ (lo + (P - 1) * (hi / 2 ^ 32)) _ e refl ∙ same P _ (lo + 2 ^ 64 * hi) hi 0 (omega arith)
 
 pub reduce_stands : (lo hi : ℕ) → lo < 2 ^ 64 → hi < 2 ^ 64 → Stands (limbs lo hi % P) (reduce_word lo hi)
-unfolding limbs reduce_word
+unfolding reduce_word
 reduce_stands lo hi h k = whole (plus_P lo (hi / 2 ^ 32)) (plus_stands lo (hi / 2 ^ 32) (omega arith) (omega arith))
   where
     whole : (t : ℕ) → Stands ((lo + (P - 1) * (hi / 2 ^ 32)) % P) t → Stands ((lo + 2 ^ 64 * hi) % P) (less_P (t + hi % 2 ^ 32 * (2 ^ 32 - 1)))
@@ -80,7 +80,6 @@ reduce_stands lo hi h k = whole (plus_P lo (hi / 2 ^ 32)) (plus_stands lo (hi / 
     }
 
 pub wide_stands : (n : ℕ) → n < 2 ^ 128 → Stands (n % P) (wide_word n)
-unfolding limbs
 wide_stands n h = rw (mod-add-div n (2 ^ 64)) at (reduce_stands (n % 2 ^ 64) (n / 2 ^ 64) (mod-lt n (pow_pos 64)) (shr_lt 64 64 h))
 
 pub mul_stands : (x y : ℕ) → x < 2 ^ 64 → y < 2 ^ 64 → Stands (x * y % P) (mul_word x y)

@@ -24,7 +24,7 @@ pub fn from_i64(int: i64) -> u64
     }
 }
 
-// The canonical form of reduce128, and as there document 01 has two words.
+// The canonical form of reduce128, of two words like that.
 pub fn from_u128(lo: u64, hi: u64) -> u64
     ensures { Held (from_u128_word lo hi) (limbs lo hi % P) result }
 {

@@ -33,7 +33,8 @@ pub fn sub_once(x: u64, y: u64) -> u64
     }
 }
 
-// Document 01's operation, of two words: lo + 2^64 * hi in one word. With hi = hh * 2^32 + hl, lo - hh + hl * (2^32 - 1), since 2^96 = -1 and 2^64 = 2^32 - 1 modulo P.
+// lo + 2^64 * hi in one word: with hi = hh * 2^32 + hl, lo - hh + hl * (2^32 - 1), since 2^96 = -1 and 2^64 = 2^32 - 1 modulo P. As an operation of
+// document 01 it takes two words.
 pub fn reduce128(lo: u64, hi: u64) -> u64
     ensures { Held (reduce_word lo hi) (limbs lo hi % P) result }
 {
