@@ -37,7 +37,7 @@ impl Session {
     fn turn<R: Read, W: Write>(&mut self, reader: &mut R, writer: &mut W) -> io::Result<bool> {
         let n = reader.read(&mut self.piece)?;
         if n == 0 {
-            write(writer, &self.desk.finish())?;
+            write(writer, self.desk.finish().as_slice())?;
             return Ok(false);
         }
         let fed = self.desk.feed(&self.piece[..n], &mut self.out);

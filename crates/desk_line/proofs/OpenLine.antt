@@ -53,6 +53,10 @@ module _ {d : Desk} {l : List ℕ} (k : Keeps d l) where
       let n : 64 ≤ length l = omega (arith, ap length k.front, length-take 64 l) in
       record { front = k.front ∙ sym (take-append-le 64 l (b ∷ []) n) })
 
+  pub keeps_byte : (b : ℕ) → (b ≡ 10 → ⊥) → Keeps (step d b) (l ++ (b ∷ []))
+  unfolding step longer
+  keeps_byte b q = rw (ne_eqb b 10 q) (keeps_longer b)
+
 -- ---- all that is written for an input that comes as one piece
 
 ended : Desk → List ℕ → List ℕ

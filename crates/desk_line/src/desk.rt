@@ -6,14 +6,13 @@ ghost use Rattle.desk_line.specs.Promises.{Feeds};
 
 use super::lines::answer;
 use super::replies::{LONGEST, Reply, spell};
-use arrayvec::ArrayVec;
 use std::marker::Model;
-use text::LINE_END;
+use text::{LINE_END, Line};
 
 // The first 64 bytes of the open line; contracts see a desk as these bytes. With 64 a line is unreadable whatever follows.
-#[derive(Drop)]
+#[derive(Clone, Copy)]
 pub struct Desk {
-    line: ArrayVec<u8, 64>,
+    line: Line<64>,
 }
 
 impl Model for Desk {
@@ -21,7 +20,9 @@ impl Model for Desk {
 
     ghost Value = { List ℕ };
 
-    ghost view = { λ d. d.line.items };
+    ghost view = { λ d. d.line };
+
+    ghost inverse = { λ line. record { line = line } };
 }
 
 // What feeding a piece answers: how many of its bytes were taken, and how many were written.
@@ -36,16 +37,14 @@ impl Desk {
     pub fn new() -> Self
         ensures { result ≡ fresh }
     {
-        Desk {
-            line: ArrayVec::new(),
-        }
+        Desk { line: Line::new() }
     }
 
     // The reply to the open line.
     fn reply(&self) -> Reply
-        ensures { result.items ≡ reply self.now }
+        ensures { result ≡ reply self.now }
     {
-        spell(answer(&self.line))
+        spell(answer(self.line.as_slice()))
     }
 
     // Takes a piece of the input and writes the replies to the lines that end in it to the front of out. It takes no more bytes than out has
@@ -55,27 +54,30 @@ impl Desk {
     {
         let taken = piece.len().min(out.len() / LONGEST);
         let mut written = 0;
-        for &byte in &piece[..taken] {
+        // Where the part of the piece begins that is not kept yet: it ends no line.
+        let mut begun = 0;
+        for (i, &byte) in piece[..taken].iter().enumerate() {
             if byte == LINE_END {
+                self.line.extend(&piece[begun..i]);
                 let reply = self.reply();
-                let end = written + reply.len();
-                out[written..end].copy_from_slice(&reply);
+                let text = reply.as_slice();
+                let end = written + text.len();
+                out[written..end].copy_from_slice(text);
                 written = end;
-                self.line.clear();
-            } else {
-                // What finds no room is not kept.
-                let _ = self.line.try_push(byte);
+                self.line = Line::new();
+                begun = i + 1;
             }
         }
+        self.line.extend(&piece[begun..taken]);
         Fed { taken, written }
     }
 
     // The input has ended: the reply to the open line, if it has a byte.
     #[tactic(auto, unfolding(crate::specs::Pieces::last))]
     pub fn finish(&self) -> Reply
-        ensures { result.items ≡ last self.now }
+        ensures { result ≡ last self.now }
     {
-        if self.line.is_empty() {
+        if self.line.as_slice().is_empty() {
             return Reply::new();
         }
         self.reply()

@@ -2,24 +2,23 @@
 ghost use Rattle.std.specs.Prelude.{◌≡◌, [], ◌∷◌, ◌++◌, ◌+◌, ◌<◌, length};
 ghost use Rattle.desk_line.specs.Replies.{text};
 
-use arrayvec::ArrayVec;
 use goldilocks::Refusal;
-use text::{LINE_END, decimal, hex};
+use text::{LINE_END, Line, decimal, hex};
 
 // The longest reply: 16 digits and the line's end.
 pub(crate) const LONGEST: usize = 17;
 
 // A reply, which is a line of text.
-pub type Reply = ArrayVec<u8, LONGEST>;
+pub type Reply = Line<LONGEST>;
 
 // A line of two texts, one behind the other.
 fn line(front: &[u8], back: &[u8]) -> Reply
     requires { length front.now + length back.now < LONGEST }
-    ensures { result.items ≡ front.now ++ back.now ++ (10 ∷ []) }
+    ensures { result ≡ front.now ++ back.now ++ (10 ∷ []) }
 {
     let mut reply = Reply::new();
-    reply.try_extend_from_slice(front).unwrap();
-    reply.try_extend_from_slice(back).unwrap();
+    reply.extend(front);
+    reply.extend(back);
     reply.push(LINE_END);
     reply
 }
@@ -27,10 +26,10 @@ fn line(front: &[u8], back: &[u8]) -> Reply
 // The word's digits, or `refused` and the refusal's number.
 #[tactic(auto, using(text::proofs::DigitLaws::length_digits, crate::proofs::Numbers::number_length), unfolding(crate::specs::Replies::text))]
 pub fn spell(answer: Result<u64, Refusal>) -> Reply
-    ensures { result.items ≡ text answer }
+    ensures { result ≡ text answer }
 {
     match answer {
         Ok(word) => line(&hex(word), b""),
-        Err(refusal) => line(b"refused ", &decimal(refusal.number())),
+        Err(refusal) => line(b"refused ", decimal(refusal.number()).as_slice()),
     }
 }

@@ -5,7 +5,8 @@ use Prim.Native.Nat.{ℕ, zero, suc, ◌+◌, ◌/◌, ◌%◌, ◌^◌, ◌<◌
 use native.Mathlib.Nat.{mod-eq_of_lt, lt_of_lt_of_le, pow-le-pow_right}
 use native.Mathlib.Omega.{arith}
 use borrow.Author.Tests.{lt-ltb}
-use lib.ListN.{length, get_or, length-append, get_or-append}
+use lib.ListN.{length, get_or, take, length-append, get_or-append}
+use lib.Seq.{take_all}
 use Rattle.std.specs.Fmt.{decimal as Fmt·decimal}
 use Rattle.std.proofs.lemmas.Fmt.{decimal_by_steps_wide}
 use Rattle.text.specs.Digits.{glyph, digits, made}
@@ -68,6 +69,10 @@ same_decimal n h =
     more : (m : ℕ) (ds : List ℕ) → 10 ≤ m → ((k : ℕ) → m / 10 < 10 ^ k → ds ≡ digits 10 (max 1 (places k (m / 10))) (m / 10)) → (k : ℕ) → m < 10 ^ k → ds ++ ((48 + m % 10) ∷ []) ≡ digits 10 (max 1 (places k m)) m
     more m ds l p zero f = absurd (omega arith)
     more m ds l p (suc k) f = ap (λ front. front ++ ((48 + m % 10) ∷ [])) (p k (omega arith)) ∙ sym (last_behind k m l f)
+
+-- So a line of 20 bytes holds it.
+pub held_decimal : (n : ℕ) → n < 10 ^ 20 → take 20 (Fmt·decimal n) ≡ decimal n
+held_decimal n h = ap (take 20) (same_decimal n h) ∙ take_all 20 (decimal n) (length_decimal 20 n (omega arith) h)
 
 -- The library's text of a number begins with a digit, and not with `0` unless the number is 0.
 begins : (n : ℕ) → n < 10 ^ 64 → (0 < length (Fmt·decimal n)) × (0 < n → 48 < get_or (Fmt·decimal n) 0 0)

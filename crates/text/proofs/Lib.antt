@@ -4,3 +4,4 @@ pub mod DigitLaws
 pub mod DecimalLaws
 pub mod Reading
 pub mod Turns
+pub mod LineLaws

@@ -3,9 +3,13 @@
 
 mod decimals;
 mod digits;
+mod line;
 
 // A hex digit, and a word: read from a column of up to 16 digits, and written in 16.
 pub use digits::{digit, hex, read_column};
+
+// A line of text, by value.
+pub use line::Line;
 
 // A number in decimal.
 pub use decimals::decimal;

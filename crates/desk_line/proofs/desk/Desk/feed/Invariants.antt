@@ -1,6 +1,6 @@
--- The loop's invariant: the first bytes are fed.
+-- The loop's invariant: the first bytes are fed, but for those of the open line that are not kept yet.
 use Rattle.desk_line.proofs.Feeding.{Feeding}
 use Rattle.desk_line.proofs.desk.Desk.feed.Given as goal
 
-abbrev pub invariant-loop-byte : goal.invariant-loop-byte
-invariant-loop-byte l = Feeding l.initial.self l.piece l.initial.out l.byte-index l.self l.written l.out
+abbrev pub invariant-loop-i : goal.invariant-loop-i
+invariant-loop-i l = Feeding l.initial.self l.piece l.initial.out l.i l.begun l.self l.written l.out
