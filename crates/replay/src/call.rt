@@ -25,31 +25,31 @@ pub(crate) struct Room {
 }
 
 // The operations on words, by their names.
-fn call_on_words(name: &str, a: u64, b: u64) -> Option<Outcome> {
+fn call_on_words(name: &[u8], a: u64, b: u64) -> Option<Outcome> {
     Some(match name {
-        "add" => add(a, b).into(),
-        "sub" => sub(a, b).into(),
-        "mul" => mul(a, b).into(),
-        "neg" => neg(a).into(),
-        "square" => square(a).into(),
-        "halve" => halve(a).into(),
-        "reduce128" => reduce128(a, b).into(),
-        "from_u128" => from_u128(a, b).into(),
-        "from_i64" => from_i64(a.cast_signed()).into(),
-        "mul_2exp_u64" => mul_2exp_u64(a, b).into(),
-        "div_2exp_u64" => div_2exp_u64(a, b).into(),
-        "from_canonical_checked_u64" => from_canonical_checked_u64(a).into(),
-        "from_canonical_checked_i64" => from_canonical_checked_i64(a.cast_signed()).into(),
-        "try_inverse" => try_inverse(a).into(),
-        "try_sqrt" => try_sqrt(a).into(),
-        "two_adic_generator" => two_adic_generator(a).into(),
-        "slot" => slot(a, b).into(),
-        "injective_exp_root_n" => injective_exp_root_n(a).into(),
-        "as_canonical_u64" => as_canonical_u64(a).into(),
-        "value" => value(a).into(),
-        "eq" => eq(a, b).into(),
-        "is_zero" => is_zero(a).into(),
-        "cmp" => cmp(a, b).into(),
+        b"add" => add(a, b).into(),
+        b"sub" => sub(a, b).into(),
+        b"mul" => mul(a, b).into(),
+        b"neg" => neg(a).into(),
+        b"square" => square(a).into(),
+        b"halve" => halve(a).into(),
+        b"reduce128" => reduce128(a, b).into(),
+        b"from_u128" => from_u128(a, b).into(),
+        b"from_i64" => from_i64(a.cast_signed()).into(),
+        b"mul_2exp_u64" => mul_2exp_u64(a, b).into(),
+        b"div_2exp_u64" => div_2exp_u64(a, b).into(),
+        b"from_canonical_checked_u64" => from_canonical_checked_u64(a).into(),
+        b"from_canonical_checked_i64" => from_canonical_checked_i64(a.cast_signed()).into(),
+        b"try_inverse" => try_inverse(a).into(),
+        b"try_sqrt" => try_sqrt(a).into(),
+        b"two_adic_generator" => two_adic_generator(a).into(),
+        b"slot" => slot(a, b).into(),
+        b"injective_exp_root_n" => injective_exp_root_n(a).into(),
+        b"as_canonical_u64" => as_canonical_u64(a).into(),
+        b"value" => value(a).into(),
+        b"eq" => eq(a, b).into(),
+        b"is_zero" => is_zero(a).into(),
+        b"cmp" => cmp(a, b).into(),
         _ => return None,
     })
 }
@@ -84,7 +84,7 @@ fn call_decode(asked: Arguments, bytes: &mut [u8], words: &mut [u64]) -> Outcome
 }
 
 // The call that a line asks for. The room is lent for its lists.
-pub(crate) fn call(name: &str, asked: Arguments, room: &mut Room) -> Option<Outcome> {
+pub(crate) fn call(name: &[u8], asked: Arguments, room: &mut Room) -> Option<Outcome> {
     let n = asked.n as usize;
     let m = asked.m as usize;
     if MOST < n || MOST < m {
@@ -100,10 +100,10 @@ pub(crate) fn call(name: &str, asked: Arguments, room: &mut Room) -> Option<Outc
     let others: &mut [u64] = others;
     let bytes: &mut [u8] = bytes;
     match name {
-        "sum_array" => Some(call_sum(asked, &mut words[..n])),
-        "dot_product" => Some(call_dot(asked, &mut words[..n], &mut others[..m])),
-        "encode" => Some(call_encode(asked, &mut words[..n], &mut bytes[..m])),
-        "decode" => Some(call_decode(asked, &mut bytes[..n], &mut words[..m])),
+        b"sum_array" => Some(call_sum(asked, &mut words[..n])),
+        b"dot_product" => Some(call_dot(asked, &mut words[..n], &mut others[..m])),
+        b"encode" => Some(call_encode(asked, &mut words[..n], &mut bytes[..m])),
+        b"decode" => Some(call_decode(asked, &mut bytes[..n], &mut words[..m])),
         _ => call_on_words(name, asked.a, asked.b),
     }
 }

@@ -18,10 +18,13 @@ pub(crate) struct Arguments {
     pub m: u64,
 }
 
-// The name, without the spaces behind it. Bytes that are no text name nothing.
-pub(crate) fn read_name(line: &[u8; LINE]) -> Option<&str> {
-    let column = str::from_utf8(&line[..NAME]).ok()?;
-    Some(column.trim_end_matches(' '))
+// The name, without the spaces behind it.
+pub(crate) fn read_name(line: &[u8; LINE]) -> &[u8] {
+    let column = &line[..NAME];
+    match column.iter().rposition(|byte| *byte != b' ') {
+        Some(last) => &column[..=last],
+        None => &[],
+    }
 }
 
 // The columns of the arguments.

@@ -1,47 +1,40 @@
 // The lists that a line stands for, and the one word by which the contents of a list are compared.
-ghost use Rattle.std.specs.Prelude.{◌≡◌, ℕ, ◌<◌, length, slice_index, slice_get, IfSome};
+ghost use Rattle.std.specs.Prelude.{◌≡◌, ℕ, ◌*◌, ◌/◌, ◌%◌, ◌^◌, ◌<◌, length, slice_index};
 ghost use Rattle.std.specs.Iterator.{IsFinite};
-ghost use Rattle.replay.specs.Lists.{term as Lists·term, term_byte as Lists·term_byte};
+ghost use Rattle.replay.specs.Lists.{term, term_byte};
 
-// The word at a place of those that begin with `first` and grow by `step`, modulo 2^64.
-#[tactic(auto, unfolding(crate::specs::Lists::term), using(std::proofs::Common::mul_comm))]
-fn term(first: u64, step: u64, place: usize) -> u64
-    ensures { result ≡ Lists·term first step place }
+// The byte at a place of a word, the lowest first.
+fn byte_of(word: u64, place: usize) -> u8
+    requires { place < 8 }
+    ensures { result ≡ word / 2 ^ (8 * place) % 256 }
 {
-    first.wrapping_add(step.wrapping_mul(place as u64))
-}
-
-// The byte at a place of such words, 8 for each, little-endian.
-#[tactic(auto, unfolding(crate::specs::Lists::term_byte))]
-fn term_byte(first: u64, step: u64, place: usize) -> u8
-    ensures { result ≡ Lists·term_byte first step place }
-{
-    let word = term(first, step, place / 8);
-    ((word >> (8 * (place % 8))) % 256) as u8
-}
-
-// Each item becomes what `at` says of its place.
-fn fill<T: Copy, F: Fn(usize) -> T>(items: &mut [T], at: F)
-    requires { F.IsAlwaysCallable at }
-    ensures { (k : ℕ) → k < length items.new → IfSome (slice_get items.new k) (λ v. F.post at k v) }
-{
-    for (place, item) in items.iter_mut().enumerate() {
-        *item = at(place);
-    }
+    ((word >> (8 * place)) % 256) as u8
 }
 
 // The words become those that begin with `first` and grow by `step`.
+#[tactic(auto, using(crate::proofs::Terms::first_term))]
 pub(crate) fn fill_words(words: &mut [u64], first: u64, step: u64)
-    ensures { (k : ℕ) → k < length words.new → slice_index words.new k ≡ Lists·term first step k }
+    ensures { (k : ℕ) → k < length words.new → slice_index words.new k ≡ term first step k }
 {
-    fill(words, |place| term(first, step, place));
+    let mut word = first;
+    for item in words.iter_mut() {
+        *item = word;
+        word = word.wrapping_add(step);
+    }
 }
 
-// The bytes become those of such words; the last word may be cut.
+// The bytes become those of such words, 8 for each, little-endian; the last word may be cut.
+#[tactic(auto, using(crate::proofs::Terms::first_term))]
 pub(crate) fn fill_bytes(bytes: &mut [u8], first: u64, step: u64)
-    ensures { (k : ℕ) → k < length bytes.new → slice_index bytes.new k ≡ Lists·term_byte first step k }
+    ensures { (k : ℕ) → k < length bytes.new → slice_index bytes.new k ≡ term_byte first step k }
 {
-    fill(bytes, |place| term_byte(first, step, place));
+    let mut word = first;
+    for (place, byte) in bytes.iter_mut().enumerate() {
+        *byte = byte_of(word, place % 8);
+        if place % 8 == 7 {
+            word = word.wrapping_add(step);
+        }
+    }
 }
 
 // The digest before any item.

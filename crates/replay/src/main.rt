@@ -5,7 +5,7 @@
 // taken for a good one.
 #![tactic(auto)]
 
-ghost use Rattle.std.specs.Prelude.{◌≡◌, ◌+◌, ◌%◌, ◌^◌, ◌≤◌, IfOk, length};
+ghost use Rattle.std.specs.Prelude.{◌≡◌, ◌≢◌, ◌+◌, ◌-◌, ◌%◌, ◌^◌, ◌<◌, ◌≤◌, All, IfOk, length, min, slice_index, take};
 
 mod call;
 mod line;
@@ -46,7 +46,12 @@ impl Tally {
 }
 
 // What of a line stands before its end: all, where it has none, but never the last byte of a whole line, where the end belongs.
-fn before_end(line: &[u8]) -> &[u8] {
+fn before_end(line: &[u8]) -> &[u8]
+    ensures front { result.now ≡ take (length result.now) line.now }
+    ensures short { length result.now < LINE }
+    ensures no_end { All (λ b. b ≢ LINE_END) result.now }
+    ensures at_end { length result.now < min (length line.now) (LINE - 1) → slice_index line.now (length result.now) ≡ LINE_END }
+{
     let front = &line[..line.len().min(LINE - 1)];
     match front.iter().position(|byte| *byte == LINE_END) {
         Some(end) => &front[..end],
@@ -66,7 +71,7 @@ struct Replay<'a, W> {
 fn both_outcomes(line: &[u8; LINE], room: &mut Room) -> Option<(Outcome, Outcome)> {
     let asked = read_arguments(line)?;
     let expected = read_outcome(line)?;
-    let got = call(read_name(line)?, asked, room)?;
+    let got = call(read_name(line), asked, room)?;
     Some((expected, got))
 }
 
@@ -91,11 +96,7 @@ impl<'a, W: Write> Replay<'a, W> {
     fn differs(&mut self, line: &[u8], got: Outcome) -> io::Result<()> {
         self.tally.differed();
         self.writer.write_all(before_end(line))?;
-        writeln!(
-            self.writer,
-            " got {:02X} {:04X} {:016X}",
-            got.number, got.index, got.word
-        )
+        self.writer.write_all(&got.spelled())
     }
 
     // Reads a line, makes its call, and compares.

@@ -1,6 +1,10 @@
 // What comes of a call, in the three numbers by which a line states it.
 use answers::{Refusal, RefusedAt};
 use std::cmp::Ordering;
+use text::hex;
+
+// The bytes of a spelled outcome.
+const SPELLED: usize = 30;
 
 // What a call gives: the refusal's number, 0 if there is none, the index beside it, and the word.
 #[derive(Clone, Copy, PartialEq, Eq)]
@@ -21,6 +25,17 @@ impl Outcome {
                 word: digest,
             },
         }
+    }
+
+    // What a line that does not agree ends with: the three numbers, in as many hex digits as the line has for each, and the line's end.
+    pub fn spelled(self) -> [u8; SPELLED] {
+        let mut text = *b" got 00 0000 0000000000000000\n";
+        // As a slice, which keeps its length for the check.
+        let places: &mut [u8] = &mut text;
+        places[5..7].copy_from_slice(&hex(self.number)[14..]);
+        places[8..12].copy_from_slice(&hex(self.index)[12..]);
+        places[13..29].copy_from_slice(&hex(self.word));
+        text
     }
 }
 
