@@ -1,15 +1,27 @@
 -- The words that sum and dot answer: modulo P each is the sum.
-use Rattle.std.proofs.Common.{◌≡◌, ℕ, ◌+◌, ◌*◌, ◌%◌, ◌^◌, ◌<◌, ◌≤◌, List, [], ◌∷◌, length, sym, refl, lt_of_le_of_lt, sub-le, arith, lit<}
+use Rattle.std.proofs.Common.{◌≡◌, ℕ, ◌+◌, ◌*◌, ◌%◌, ◌^◌, ◌<◌, ◌≤◌, false, List, [], ◌∷◌, length, sym, refl, lt_of_le_of_lt, sub-le, arith, lit<, ne_eqb}
 use Rattle.std.proofs.lemmas.Bool.Decides.{nat_tests}
+use Rattle.std.specs.Prelude.{Err}
 use Rattle.prime.specs.Modulus.{P}
-use Rattle.answers.proofs.Stands.{Stands, itself, to}
+use Rattle.answers.specs.declared.refusals.Refusal.TheVariants.{LengthsDiffer}
+use Rattle.answers.proofs.Stands.{Stands, itself, to, refused}
 use Rattle.limbs.specs.Limbs.{largest}
 use Rattle.words.specs.Words.{Words, add_word, wide_word}
 use Rattle.words.proofs.Laws.{add_stands, wide_stands}
 use Rattle.sums.specs.Sums.{limit, total, sum_word, low_sum, high_sum, folded_sum, less_offset, dot_products}
+use Rattle.sums.specs.Promises.{Dotted}
 use Rattle.sums.proofs.Totals.{Products, total_fits, low_fits, high_fits}
 
 -- ---- the rule of sum, by the number of words
+
+-- four words or more
+pub sum_more : (ws : List ℕ) → 3 < length ws → wide_word (total ws) ≡ sum_word ws
+unfolding sum_word
+sum_more [] h = omega arith
+sum_more (x ∷ []) h = omega arith
+sum_more (x ∷ y ∷ []) h = omega arith
+sum_more (x ∷ y ∷ z ∷ []) h = omega arith
+sum_more (x ∷ y ∷ z ∷ w ∷ ws) h = refl
 
 pub sum_stands : (ws : List ℕ) → Words ws → length ws ≤ limit → Stands (total ws % P) (sum_word ws)
 unfolding total sum_word
@@ -56,3 +68,7 @@ dot_stands (p ∷ q ∷ []) h l = to (omega arith) (two_stand p q h.0 h.1.0)
 dot_stands (p ∷ q ∷ s ∷ ps) h l =
     let all : List ℕ = p ∷ q ∷ s ∷ ps in
     to (sym (folded_same all (high_fits all h l))) (wide_stands (folded_sum all) (lt_of_le_of_lt (sub-le (low_sum all + P) (high_sum all)) (low_fits all h l)))
+
+-- lists that are not paired
+pub lengths_differ : (xs ys : List ℕ) → (length xs ≡ length ys → ⊥) → Dotted xs ys (Err LengthsDiffer)
+lengths_differ xs ys n = rw (ne_eqb (length xs) (length ys) n) (refused false LengthsDiffer refl)

@@ -1,5 +1,5 @@
 -- Sums over lists: their bounds over the number of entries, and the steps of the loops that make them.
-use Rattle.std.proofs.Common.{◌≡◌, ℕ, zero, suc, ◌+◌, ◌-◌, ◌*◌, ◌/◌, ◌%◌, ◌^◌, ◌<◌, ◌≤◌, List, [], ◌∷◌, map, length, get_or, take, refl, ap, map-id, le_trans, le_refl, le_of_suc-le-suc, lt_of_le_of_lt, add-le-add, mul-le-mul_right, arith, lit<, lit≤, shr_lt}
+use Rattle.std.proofs.Common.{◌≡◌, ℕ, zero, suc, ◌+◌, ◌-◌, ◌*◌, ◌/◌, ◌%◌, ◌^◌, ◌<◌, ◌≤◌, List, [], ◌∷◌, map, length, get_or, take, drop, refl, ap, map-id, le_trans, le_refl, le_of_suc-le-suc, lt_of_le_of_lt, add-le-add, mul-le-mul_right, arith, lit<, lit≤, drop-cons, shr_lt}
 use Rattle.std.proofs.lemmas.Grind.{common_steps}
 use Rattle.std.proofs.lemmas.List.Recursion.{is_sum_by}
 use Rattle.prime.specs.Modulus.{P}
@@ -62,6 +62,11 @@ module _ (ps : List ℕ) (e : Products ps) where
 pub total_more : (ws : List ℕ) (i : ℕ) → i < length ws → total (take (i + 1) ws) ≡ total (take i ws) + get_or ws i 0
 unfolding total
 total_more ws i h = grind (arith, common_steps, is_sum_by total (λ x. x) refl (λ _ _. refl))
+
+-- a sum so far, s, and what is left from i on make the whole
+pub total_step : (ws : List ℕ) (i s : ℕ) → s + total (drop i ws) ≡ total ws → i < length ws → {r : ℕ} → r ≡ s + get_or ws i 0 → r + total (drop (i + 1) ws) ≡ total ws
+unfolding total
+total_step ws i s e h f = grind (arith, drop-cons ws i 0 h)
 
 -- one pair of two lists
 product_at : (xs ys : List ℕ) (i : ℕ) → i < length xs → i < length ys → get_or (products xs ys) i 0 ≡ get_or xs i 0 * get_or ys i 0

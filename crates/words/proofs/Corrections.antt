@@ -1,11 +1,12 @@
 -- The two corrections by P, "less P if 2^64 or more" and "plus P if negative": what they do modulo P, and the code that makes them by sums and
 -- differences that wrap. 2^32 - 1 more, wrapping, is P less.
 use Rattle.std.proofs.Common.{◌≡◌, ℕ, ◌+◌, ◌-◌, ◌*◌, ◌%◌, ◌^◌, ◌<◌, ◌≤◌, refl, arith, le-ltb, lt-ltb}
+use Rattle.std.proofs.lemmas.Bool.Decides.{nat_tests}
 use Rattle.prime.specs.Modulus.{P}
 use Rattle.prime.proofs.Congruence.{same}
 use Rattle.prime.proofs.Choice.{by_lt, by_le}
 use Rattle.answers.proofs.Stands.{Stands}
-use Rattle.words.specs.Words.{less_P, plus_P, add_word}
+use Rattle.words.specs.Words.{less_P, plus_P, add_word, sub_word}
 
 less_none : (n : ℕ) → n < 2 ^ 64 → less_P n ≡ n
 less_none n h = simp (lt-ltb n (2 ^ 64) h)
@@ -45,3 +46,18 @@ module _ (x y s : ℕ) (h : x < 2 ^ 64) (k : y < 2 ^ 64) (e : s ≡ (x + y) % 2 
     pub add_two : o < s → o + (2 ^ 32 - 1) ≡ add_word x y
     unfolding add_word
     add_two m = rw (← wraps_one l, less_one (s + (2 ^ 32 - 1)) (omega arith)) (omega arith)
+
+-- `sub`, whose difference wraps not at all, once or twice
+module _ (x y d : ℕ) (h : x < 2 ^ 64) (k : y < 2 ^ 64) (i : d < 2 ^ 64) (e : (d + y) % 2 ^ 64 ≡ x) where
+  pub sub_none : y ≤ x → d ≡ sub_word x y
+  unfolding sub_word
+  sub_none l = grind (arith, nat_tests)
+
+  module _ (o : ℕ) (j : o < 2 ^ 64) (f : (o + (2 ^ 32 - 1)) % 2 ^ 64 ≡ d) (l : x < y) where
+    pub sub_one : 2 ^ 32 - 1 ≤ d → o ≡ sub_word x y
+    unfolding sub_word
+    sub_one m = grind (arith, nat_tests)
+
+    pub sub_two : d < 2 ^ 32 - 1 → o - (2 ^ 32 - 1) ≡ sub_word x y
+    unfolding sub_word
+    sub_two m = grind (arith, nat_tests)
