@@ -4,6 +4,7 @@ pub mod Numbers
 pub mod Cutting
 pub mod Shapes
 pub mod Parts
+pub mod Counts
 pub mod Feeding
 pub mod OpenLine
 pub mod Theorems

@@ -1,4 +1,4 @@
-// The bytes of a line of text: digits, words in hex, and numbers in decimal. What is done with a line is for the crates above.
+// The bytes of a line of text: digits, words in hex, numbers in decimal, and a line by value. What is done with a line is for the crates above.
 #![tactic(auto)]
 
 mod decimals;
