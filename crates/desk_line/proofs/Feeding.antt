@@ -21,7 +21,7 @@ use Rattle.desk_line.proofs.Cutting.{after_append, written_append, text_length}
 use Rattle.desk_line.proofs.OpenLine.{Keeps, keeps_byte}
 
 -- After i bytes of a piece the desk d keeps what e keeps and then the bytes from `begun` on, and n bytes stand in front of the buffer, which was lent as
--- `before`. (That e has 64 bytes at most its type says, whenever it is used.)
+-- `before`. That e has 64 bytes at most is known where a byte is put behind its line (`fitted`).
 pub record Feeding (d : Desk) (piece before : List ℕ) (i begun : ℕ) (e : Desk) (n : ℕ) (out : List ℕ) : Type 0 where
   pub from : begun ≤ i
   pub kept : length e ≤ 64 → Keeps (after d (take i piece)) (e ++ drop begun (take i piece))
@@ -39,13 +39,14 @@ feeding_none d piece before = record {
   room = omega arith;
 }
 
-module _ (t : ℕ) {d e : Desk} {piece before out : List ℕ} {i begun n : ℕ} (f : Feeding d piece before i begun e n out) where
+module _ {d e : Desk} {piece before out : List ℕ} {i begun n : ℕ} (f : Feeding d piece before i begun e n out) where
   -- what is kept once the bytes from `begun` on are put behind
   pub kept_now : {s x : Desk} → s ≡ e → length s ≤ 64 → x ≡ take 64 (s ++ between begun i piece) → x ≡ after d (take i piece)
   kept_now v h p =
       p ∙ ap (λ (l : List ℕ). take 64 (l ++ between begun i piece)) v ∙ ap (λ (l : List ℕ). take 64 (e ++ l)) (between_is piece begun i)
       ∙ sym (f.kept (subst (λ (l : List ℕ). length l ≤ 64) v h)).front
 
+module _ (t : ℕ) {d e : Desk} {piece before out : List ℕ} {i begun n : ℕ} (f : Feeding d piece before i begun e n out) where
   -- the next byte is that of the first t bytes
   module _ (h : i < length (take t piece)) where
     next : take (i + 1) piece ≡ take i piece ++ (get_or (take t piece) i 0 ∷ [])
@@ -69,7 +70,7 @@ module _ (t : ℕ) {d e : Desk} {piece before out : List ℕ} {i begun n : ℕ} 
         let w = written d (take i piece) in
         let a : take n out ≡ w = rw f.bytes (take_at w (drop n before) n (sym f.count)) in
         let g : drop n out ≡ drop n before = rw f.bytes (drop_at w (drop n before) n (sym f.count)) in
-        let said : reply (after d (take i piece)) ≡ r = ap reply (sym (kept_now v u o)) ∙ sym y in
+        let said : reply (after d (take i piece)) ≡ r = ap reply (sym (kept_now f v u o)) ∙ sym y in
         let p : written d (take (i + 1) piece) ≡ w ++ r = rw (written_next, eq-eqb _ _ q, said) refl in
         let past : drop (i + 1) (take (i + 1) piece) ≡ [] = drop_of_length-le (take (i + 1) piece) (omega (arith, length-take (i + 1) piece)) in
         record {
@@ -101,7 +102,7 @@ module _ (t : ℕ) {d e : Desk} {piece before out : List ℕ} {i begun n : ℕ} 
       → Feeds d piece before x out (record { taken = t; written = n })
   all_fed {s} {x} m q v h p = record {
     taken = m;
-    desk = kept_now v h (p ∙ ap (λ (j : ℕ). take 64 (s ++ between begun j piece)) (sym q)) ∙ ap (λ (j : ℕ). after d (take j piece)) q;
+    desk = kept_now f v h (p ∙ ap (λ (j : ℕ). take 64 (s ++ between begun j piece)) (sym q)) ∙ ap (λ (j : ℕ). after d (take j piece)) q;
     count = f.count ∙ ap (λ (j : ℕ). length (written d (take j piece))) q;
     bytes = f.bytes ∙ ap (λ (j : ℕ). written d (take j piece) ++ drop n before) q;
   }

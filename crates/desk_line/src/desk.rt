@@ -54,7 +54,7 @@ impl Desk {
     {
         let taken = piece.len().min(out.len() / LONGEST);
         let mut written = 0;
-        // Where the part of the piece begins that is not kept yet: it ends no line.
+        // Where the bytes of the open line begin that are not kept yet.
         let mut begun = 0;
         for (i, &byte) in piece[..taken].iter().enumerate() {
             if byte == LINE_END {

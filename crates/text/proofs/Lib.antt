@@ -1,4 +1,4 @@
--- Laws of the definitions, which those above cite; Turns serves the proofs here.
+-- Laws of the definitions, and of lines joined, which those above cite; Turns, and the rest of LineLaws, serve the proofs here.
 pub mod NameLaws
 pub mod DigitLaws
 pub mod DecimalLaws

@@ -27,8 +27,8 @@ module _ (N n b : ℕ) (xs : List ℕ) (long : length xs ≡ N) where
       let front = length-take-le n xs (omega arith) in
       take_more_set xs n b (omega arith) ∙ sym (take_all N (take n xs ++ (b ∷ [])) (omega (arith, front, length-append (take n xs) (b ∷ []))))
 
-  pub one_zero_less : n < N → drop n xs ≡ replicate (N - n) 0 → drop (n + 1) (set xs n b) ≡ replicate (N - (n + 1)) 0
-  one_zero_less h zeros =
+  pub one_zero_less : drop n xs ≡ replicate (N - n) 0 → drop (n + 1) (set xs n b) ≡ replicate (N - (n + 1)) 0
+  one_zero_less zeros =
       drop-set-lt (n + 1) xs n b (omega arith) ∙ sym (drop-drop 1 n xs) ∙ ap (drop 1) zeros ∙ drop-replicate 1 (N - n) 0 ∙ ap (λ (m : ℕ). replicate m 0) (taken_twice N n 1)
 
   pub full : N ≤ n → n ≤ N → take n xs ≡ take N (take n xs ++ (b ∷ []))

@@ -60,6 +60,7 @@ impl<const N: usize> Line<N> {
         ensures fitted { length self.old ≤ N }
     {
         let taken = (N - self.len).min(bytes.len());
+        // As a slice, since a part of an array with N bytes is not lent.
         let room: &mut [u8] = &mut self.bytes;
         room[self.len..self.len + taken].copy_from_slice(&bytes[..taken]);
         self.len += taken;

@@ -7,4 +7,4 @@ use Rattle.text.proofs.line.Line.push.Goals as goal
 pub invariant_of-self : goal.invariant_of-self
 invariant_of-self g c =
     let i = c.self.invariant in
-    (omega (arith, c.if-self.true), search rules, one_zero_less g.row.N c.self.inside.len _ c.self.inside.bytes i.1 (search rules) i.2)
+    (omega (arith, c.if-self.true), search rules, one_zero_less g.row.N c.self.inside.len _ c.self.inside.bytes i.1 i.2)
