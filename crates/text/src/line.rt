@@ -4,7 +4,7 @@ ghost use Rattle.std.specs.Prelude.{◌≡◌, ◌≤◌, [], ◌∷◌, ◌++�
 use std::marker::Model;
 
 // A line of at most N bytes, or a part of one. It lies in the value itself, and whoever holds it may copy it. Contracts see its bytes.
-#[derive(Clone, Copy)]
+#[derive(Clone, Copy, Debug, PartialEq, Eq, PartialOrd, Ord, Hash)]
 pub struct Line<const N: usize> {
     bytes: [u8; N],
     len: usize,
@@ -72,5 +72,14 @@ impl<const N: usize> Line<N> {
         ensures fits { length result.now ≤ N }
     {
         &self.bytes[..self.len]
+    }
+}
+
+// No byte.
+impl<const N: usize> Default for Line<N> {
+    ghost is_default = { λ l. l ≡ [] };
+
+    fn default() -> Self {
+        Self::new()
     }
 }
