@@ -1,8 +1,6 @@
 // Lists of words as bytes in a lent buffer, and back.
-ghost use Rattle.std.specs.Prelude.{◌≡◌, ◌*◌, ◌<◌, length, MatchOption, MatchResult};
-ghost use Rattle.answers.specs.Answers.{number};
+ghost use Rattle.std.specs.Prelude.{◌≡◌, ◌*◌, ◌<◌, length, MatchOption};
 ghost use Rattle.wire.specs.Wire.{encoded, groups, first_bad};
-ghost use Rattle.wire.specs.Refusals.{sizes};
 ghost use Rattle.wire.specs.Promises.{Encoded, Decoded};
 
 use super::elements::{read_element, write_element};
@@ -11,19 +9,6 @@ use words::ORDER_U64;
 
 // The largest number of words that are coded at once. Sums have a limit of their own, which a later request raises alone.
 const LIMIT: usize = 4096;
-
-// Tests that the words are not too many, and then that there are 8 bytes for each.
-fn fits(words: usize, bytes: usize) -> Result<(), Refusal>
-    ensures { MatchResult result (λ _. sizes words bytes ≡ 0) (λ r. sizes words bytes ≡ number r) }
-{
-    if LIMIT < words {
-        return Err(Refusal::TooMany);
-    }
-    if bytes != 8 * words {
-        return Err(Refusal::WrongLength);
-    }
-    Ok(())
-}
 
 // Writes the words, 8 bytes each.
 #[tactic(auto, using(crate::proofs::Groups::words_turn), unfolding(crate::specs::Wire::encoded))]
@@ -61,11 +46,17 @@ fn read_all(bytes: &[u8], words: &mut [u64])
     }
 }
 
-// Writes the words into a buffer of exactly 8 bytes for each.
+// Writes the words into a buffer of exactly 8 bytes for each. (The two tests stand here and in `decode`: of one function for both the compiler makes one
+// choice, for which a refused call pays up to twice.)
 pub fn encode(words: &[u64], bytes: &mut [u8]) -> Result<(), RefusedAt>
     ensures { Encoded words.now bytes.old bytes.new result }
 {
-    fits(words.len(), bytes.len())?;
+    if LIMIT < words.len() {
+        return Err(Refusal::TooMany.into());
+    }
+    if bytes.len() != 8 * words.len() {
+        return Err(Refusal::WrongLength.into());
+    }
     write_all(words, bytes);
     Ok(())
 }
@@ -74,8 +65,14 @@ pub fn encode(words: &[u64], bytes: &mut [u8]) -> Result<(), RefusedAt>
 pub fn decode(bytes: &[u8], words: &mut [u64]) -> Result<(), RefusedAt>
     ensures { Decoded bytes.now words.old words.new result }
 {
-    fits(words.len(), bytes.len())?;
-    if let Some(index) = first_bad(bytes, words.len()) {
+    let n = words.len();
+    if LIMIT < n {
+        return Err(Refusal::TooMany.into());
+    }
+    if bytes.len() != 8 * n {
+        return Err(Refusal::WrongLength.into());
+    }
+    if let Some(index) = first_bad(bytes, n) {
         return Err(RefusedAt {
             refusal: Refusal::OutOfRange,
             index: index as u64,
