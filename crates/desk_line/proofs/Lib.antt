@@ -7,5 +7,6 @@ pub mod Parts
 pub mod Counts
 pub mod Feeding
 pub mod OpenLine
+pub mod Unkept
 pub mod Theorems
 pub mod Example

@@ -2,12 +2,12 @@
 use native.Mathlib.Omega.{arith}
 use borrow.Author.Rules.{rules}
 use lib.ListN.{length-take}
-use Rattle.desk_line.proofs.Feeding.{feeding_none, line_fed, byte_fed, all_fed}
+use Rattle.desk_line.proofs.Unkept.{unkept_none, line_unkept, byte_unkept, all_fed}
 use Rattle.desk_line.proofs.desk.Desk.feed.Goals as goal
 use Rattle.desk_line.proofs.desk.Desk.feed.Goals.{then-byte-eq-LINE_END, else-byte-eq-LINE_END}
 
 pub loop-i-init : goal.loop-i-init
-loop-i-init c = feeding_none _ _ _
+loop-i-init c = unkept_none _ _ _
 
 -- the byte ended a line, or it did not
 pub loop-i-preserved : goal.loop-i-preserved
@@ -16,8 +16,8 @@ loop-i-preserved c =
     let t = c.min-taken.result in
     elim c.if-byte-eq-LINE_END.branch [
       | then-byte-eq-LINE_END w ↦ rw (w.self-is, w.out-is, w.written-is, w.begun-is)
-          (line_fed t f (search rules) (search rules) c.self.view_is w.extend.ensures.fitted w.extend.ensures.joined (search rules) (grind arith) (grind arith) (search rules))
-      | else-byte-eq-LINE_END w ↦ rw (w.self-is, w.out-is, w.written-is, w.begun-is) (byte_fed t f (search rules) (search rules))
+          (line_unkept t f (search rules) (search rules) c.self.view_is w.extend.ensures.fitted w.extend.ensures.joined (search rules) (grind arith) (grind arith) (search rules))
+      | else-byte-eq-LINE_END w ↦ rw (w.self-is, w.out-is, w.written-is, w.begun-is) (byte_unkept t f (search rules) (search rules))
     ]
 
 pub returns : goal.returns
