@@ -1,4 +1,5 @@
 -- Feeding a piece byte by byte: what stands in the lent buffer, and what is kept, after its first i bytes.
+-- Here each byte is kept at once. `feed` keeps the bytes of a line together: Unkept says what holds in between, and rests on these laws, but for `byte_kept`.
 use mathlib.Core.Path.{◌≡◌, refl, sym, ap, ◌∙◌}
 use mathlib.Core.Bool.{cond}
 use mathlib.Core.List.{List, [], ◌∷◌, ◌++◌, append_assoc, append-nil}
@@ -27,10 +28,6 @@ pub record Feeding (d : Desk) (piece before : List ℕ) (i : ℕ) (e : Desk) (n 
 pub feeding_none : (d : Desk) (piece before : List ℕ) → Feeding d piece before 0 d 0 before
 unfolding after written
 feeding_none d piece before = record { desk = refl; count = refl; bytes = refl; room = omega arith }
-
--- what the desk has become is named by what was fed
-pub feeding_is : {d e : Desk} {piece before out : List ℕ} {i n : ℕ} → Feeding d piece before i e n out → Feeding d piece before i (after d (take i piece)) n out
-feeding_is f = record { desk = refl; count = f.count; bytes = f.bytes; room = f.room }
 
 -- the next byte is that of the first t bytes
 module _ (t : ℕ) {d e : Desk} {piece before out : List ℕ} {i n : ℕ} (h : i < length (take t piece)) (f : Feeding d piece before i e n out) where

@@ -1,8 +1,8 @@
 -- Feeding a piece line by line, as `feed` does: a byte of the open line is not kept until that line ends, or all that is taken of the piece is passed.
--- What stands in the lent buffer after each byte is the same as in Feeding, where it is kept at once.
+-- After each byte the lent buffer holds the same as in Feeding, where each byte is kept at once.
 use mathlib.Core.Path.{◌≡◌, refl, sym, ap, subst, ◌∙◌}
 use mathlib.Core.List.{List, [], ◌∷◌, ◌++◌, append_assoc, append-nil}
-use Prim.Native.Nat.{ℕ, ◌+◌, ◌/◌, ◌<◌, ◌≤◌, min}
+use Prim.Native.Nat.{ℕ, ◌+◌, ◌*◌, ◌/◌, ◌<◌, ◌≤◌, min}
 use native.Mathlib.Omega.{arith}
 use lib.ListN.{length, get_or, take, drop, length-take, drop_of_length-le}
 use lib.Seq.{take_all}
@@ -14,23 +14,34 @@ use Rattle.desk_line.specs.declared.desk.Desk.{Desk}
 use Rattle.desk_line.specs.Replies.{reply}
 use Rattle.desk_line.specs.Pieces.{after, written}
 use Rattle.desk_line.specs.Promises.{Feeds}
-use Rattle.desk_line.proofs.Feeding.{Feeding, feeding_none, feeding_is, next, line_fed, byte_fed}
+use Rattle.desk_line.proofs.Feeding.{Feeding, feeding_none, next, line_fed, byte_fed}
 use Rattle.desk_line.proofs.OpenLine.{Keeps, keeps_byte}
 
--- After i bytes of a piece the desk d keeps what e keeps and then the bytes from `begun` on, and n bytes stand in front of the buffer, which was lent as
--- `before`. That e has 64 bytes at most is known where a byte is put behind its line (`fitted`).
+-- After i bytes of a piece the desk d keeps, up to 64 bytes, what e keeps and then the bytes from `begun` on, and n bytes stand in front of the buffer, which
+-- was lent as `before`. That e has 64 bytes at most is known where bytes are put behind its line (`fitted` of `extend`).
 pub record Unkept (d : Desk) (piece before : List ℕ) (i begun : ℕ) (e : Desk) (n : ℕ) (out : List ℕ) : Type 0 where
   pub from : begun ≤ i
   pub kept : length e ≤ 64 → Keeps (after d (take i piece)) (e ++ drop begun (take i piece))
-  pub fed : Feeding d piece before i (after d (take i piece)) n out
+  pub count : n ≡ length (written d (take i piece))
+  pub bytes : out ≡ written d (take i piece) ++ drop n before
+  pub room : n ≤ 17 * i
+
+-- kept at once, the same bytes are what Feeding says
+pub unkept_fed : {d e : Desk} {piece before out : List ℕ} {i begun n : ℕ} → Unkept d piece before i begun e n out
+    → Feeding d piece before i (after d (take i piece)) n out
+unkept_fed f = record { desk = refl; count = f.count; bytes = f.bytes; room = f.room }
 
 pub unkept_none : (d : Desk) (piece before : List ℕ) → Unkept d piece before 0 0 d 0 before
 unfolding after
-unkept_none d piece before = record {
-  from = omega arith;
-  kept = λ h. record { front = sym (ap (take 64) (append-nil d) ∙ take_all 64 d h) };
-  fed = feeding_none d piece before;
-}
+unkept_none d piece before =
+    let g = feeding_none d piece before in
+    record {
+      from = omega arith;
+      kept = λ h. record { front = sym (ap (take 64) (append-nil d) ∙ take_all 64 d h) };
+      count = g.count;
+      bytes = g.bytes;
+      room = g.room;
+    }
 
 module _ {d e : Desk} {piece before out : List ℕ} {i begun n : ℕ} (f : Unkept d piece before i begun e n out) where
   -- what is kept once the bytes from `begun` on are put behind
@@ -45,26 +56,30 @@ module _ (t : ℕ) {d e : Desk} {piece before out : List ℕ} {i begun n : ℕ} 
     pub line_unkept : {s x z : Desk} {r : List ℕ} {m k : ℕ} → get_or (take t piece) i 0 ≡ 10 → s ≡ e → length s ≤ 64 → x ≡ take 64 (s ++ between begun i piece)
         → r ≡ reply x → m ≡ length r → k ≡ length r → z ≡ [] → Unkept d piece before (i + 1) (i + 1) z (n + m) (put_mid n k out r)
     line_unkept {z = z} q v u o y c j empty =
-        let g = line_fed t h f.fed q empty (y ∙ ap reply (kept_now f v u o)) c j in
+        let g = line_fed t h (unkept_fed f) q empty (y ∙ ap reply (kept_now f v u o)) c j in
         let past : drop (i + 1) (take (i + 1) piece) ≡ [] = drop_of_length-le (take (i + 1) piece) (omega (arith, length-take (i + 1) piece)) in
         record {
           from = omega arith;
           kept = λ _. record { front = sym g.desk ∙ empty ∙ ap (take 64) (sym (ap (λ (l : List ℕ). l ++ drop (i + 1) (take (i + 1) piece)) empty ∙ past)) };
-          fed = feeding_is g;
+          count = g.count;
+          bytes = g.bytes;
+          room = g.room;
         }
 
     -- it does not: it is one more of those that are not kept yet, and nothing is written
     pub byte_unkept : (get_or (take t piece) i 0 ≡ 10 → ⊥) → Unkept d piece before (i + 1) begun e n out
     byte_unkept q =
         let b = get_or (take t piece) i 0 in
-        let g = byte_fed t h f.fed q refl in
+        let g = byte_fed t h (unkept_fed f) q refl in
         let l : e ++ drop begun (take i piece) ++ (b ∷ []) ≡ e ++ drop begun (take (i + 1) piece) =
         append_assoc e (drop begun (take i piece)) (b ∷ [])
-        ∙ ap (λ (m : List ℕ). e ++ m) (sym (drop-append-le begun (take i piece) (b ∷ []) (omega (arith, f.from, length-take i piece, length-take t piece))) ∙ ap (drop begun) (sym (next t h f.fed))) in
+        ∙ ap (λ (m : List ℕ). e ++ m) (sym (drop-append-le begun (take i piece) (b ∷ []) (omega (arith, f.from, length-take i piece, length-take t piece))) ∙ ap (drop begun) (sym (next t h (unkept_fed f)))) in
         record {
           from = omega (arith, f.from);
           kept = λ v. subst (λ (m : List ℕ). Keeps (after d (take (i + 1) piece)) m) l (subst (λ (x : Desk). Keeps x (e ++ drop begun (take i piece) ++ (b ∷ []))) g.desk (keeps_byte (f.kept v) b q));
-          fed = feeding_is g;
+          count = g.count;
+          bytes = g.bytes;
+          room = g.room;
         }
 
   -- at the end of what is taken
@@ -73,6 +88,6 @@ module _ (t : ℕ) {d e : Desk} {piece before out : List ℕ} {i begun n : ℕ} 
   all_fed {s} {x} m q v h p = record {
     taken = m;
     desk = kept_now f v h (p ∙ ap (λ (j : ℕ). take 64 (s ++ between begun j piece)) (sym q)) ∙ ap (λ (j : ℕ). after d (take j piece)) q;
-    count = f.fed.count ∙ ap (λ (j : ℕ). length (written d (take j piece))) q;
-    bytes = f.fed.bytes ∙ ap (λ (j : ℕ). written d (take j piece) ++ drop n before) q;
+    count = f.count ∙ ap (λ (j : ℕ). length (written d (take j piece))) q;
+    bytes = f.bytes ∙ ap (λ (j : ℕ). written d (take j piece) ++ drop n before) q;
   }
