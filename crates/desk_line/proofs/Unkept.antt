@@ -26,22 +26,19 @@ pub record Unkept (d : Desk) (piece before : List ℕ) (i begun : ℕ) (e : Desk
   pub bytes : out ≡ written d (take i piece) ++ drop n before
   pub room : n ≤ 17 * i
 
--- kept at once, the same bytes are what Feeding says
+-- What Feeding says of the same bytes, with the desk that has kept them all; and back, from what is kept.
 pub unkept_fed : {d e : Desk} {piece before out : List ℕ} {i begun n : ℕ} → Unkept d piece before i begun e n out
     → Feeding d piece before i (after d (take i piece)) n out
 unkept_fed f = record { desk = refl; count = f.count; bytes = f.bytes; room = f.room }
 
+fed_unkept : {d e x : Desk} {piece before out : List ℕ} {i begun n : ℕ} → begun ≤ i
+    → (length e ≤ 64 → Keeps (after d (take i piece)) (e ++ drop begun (take i piece))) → Feeding d piece before i x n out → Unkept d piece before i begun e n out
+fed_unkept b k g = record { from = b; kept = k; count = g.count; bytes = g.bytes; room = g.room }
+
 pub unkept_none : (d : Desk) (piece before : List ℕ) → Unkept d piece before 0 0 d 0 before
 unfolding after
 unkept_none d piece before =
-    let g = feeding_none d piece before in
-    record {
-      from = omega arith;
-      kept = λ h. record { front = sym (ap (take 64) (append-nil d) ∙ take_all 64 d h) };
-      count = g.count;
-      bytes = g.bytes;
-      room = g.room;
-    }
+    fed_unkept (omega arith) (λ h. record { front = sym (ap (take 64) (append-nil d) ∙ take_all 64 d h) }) (feeding_none d piece before)
 
 module _ {d e : Desk} {piece before out : List ℕ} {i begun n : ℕ} (f : Unkept d piece before i begun e n out) where
   -- what is kept once the bytes from `begun` on are put behind
@@ -58,13 +55,7 @@ module _ (t : ℕ) {d e : Desk} {piece before out : List ℕ} {i begun n : ℕ} 
     line_unkept {z = z} q v u o y c j empty =
         let g = line_fed t h (unkept_fed f) q empty (y ∙ ap reply (kept_now f v u o)) c j in
         let past : drop (i + 1) (take (i + 1) piece) ≡ [] = drop_of_length-le (take (i + 1) piece) (omega (arith, length-take (i + 1) piece)) in
-        record {
-          from = omega arith;
-          kept = λ _. record { front = sym g.desk ∙ empty ∙ ap (take 64) (sym (ap (λ (l : List ℕ). l ++ drop (i + 1) (take (i + 1) piece)) empty ∙ past)) };
-          count = g.count;
-          bytes = g.bytes;
-          room = g.room;
-        }
+        fed_unkept (omega arith) (λ _. record { front = sym g.desk ∙ empty ∙ ap (take 64) (sym (ap (λ (l : List ℕ). l ++ drop (i + 1) (take (i + 1) piece)) empty ∙ past)) }) g
 
     -- it does not: it is one more of those that are not kept yet, and nothing is written
     pub byte_unkept : (get_or (take t piece) i 0 ≡ 10 → ⊥) → Unkept d piece before (i + 1) begun e n out
@@ -74,13 +65,9 @@ module _ (t : ℕ) {d e : Desk} {piece before out : List ℕ} {i begun n : ℕ} 
         let l : e ++ drop begun (take i piece) ++ (b ∷ []) ≡ e ++ drop begun (take (i + 1) piece) =
         append_assoc e (drop begun (take i piece)) (b ∷ [])
         ∙ ap (λ (m : List ℕ). e ++ m) (sym (drop-append-le begun (take i piece) (b ∷ []) (omega (arith, f.from, length-take i piece, length-take t piece))) ∙ ap (drop begun) (sym (next t h (unkept_fed f)))) in
-        record {
-          from = omega (arith, f.from);
-          kept = λ v. subst (λ (m : List ℕ). Keeps (after d (take (i + 1) piece)) m) l (subst (λ (x : Desk). Keeps x (e ++ drop begun (take i piece) ++ (b ∷ []))) g.desk (keeps_byte (f.kept v) b q));
-          count = g.count;
-          bytes = g.bytes;
-          room = g.room;
-        }
+        fed_unkept (omega (arith, f.from))
+        (λ v. subst (λ (m : List ℕ). Keeps (after d (take (i + 1) piece)) m) l (subst (λ (x : Desk). Keeps x (e ++ drop begun (take i piece) ++ (b ∷ []))) g.desk (keeps_byte (f.kept v) b q)))
+        g
 
   -- at the end of what is taken
   pub all_fed : {s x : Desk} → t ≡ min (length piece) (length before / 17) → i ≡ t → s ≡ e → length s ≤ 64 → x ≡ take 64 (s ++ between begun t piece)
