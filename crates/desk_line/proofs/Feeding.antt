@@ -1,6 +1,6 @@
 -- Feeding a piece byte by byte: what stands in the lent buffer, and what is kept, after its first i bytes.
 -- Here each byte is kept at once. `feed` keeps the bytes of a line together: Unkept says what holds in between, and rests on these laws. (`byte_kept` is for
--- whoever keeps them one by one; nothing here cites it.)
+-- whoever keeps them one by one; nothing cites it.)
 use mathlib.Core.Path.{◌≡◌, refl, sym, ap, ◌∙◌}
 use mathlib.Core.Bool.{cond}
 use mathlib.Core.List.{List, [], ◌∷◌, ◌++◌, append_assoc, append-nil}

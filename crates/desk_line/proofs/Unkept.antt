@@ -17,8 +17,9 @@ use Rattle.desk_line.specs.Promises.{Feeds}
 use Rattle.desk_line.proofs.Feeding.{Feeding, feeding_none, next, line_fed, byte_fed}
 use Rattle.desk_line.proofs.OpenLine.{Keeps, keeps_byte}
 
--- After i bytes of a piece the desk d keeps, up to 64 bytes, what e keeps and then the bytes from `begun` on, and n bytes stand in front of the buffer, which
--- was lent as `before`. That e has 64 bytes at most is known where bytes are put behind its line (`fitted` of `extend`).
+-- After i bytes of a piece that the desk d was fed, the desk in memory is e, behind whose line those of the i bytes from `begun` on are not put yet: the first 64
+-- of both are what d keeps by then. n bytes stand in front of the buffer, which was lent as `before`. That e has 64 bytes at most is known where bytes are
+-- put behind its line (`fitted` of `extend`).
 pub record Unkept (d : Desk) (piece before : List ℕ) (i begun : ℕ) (e : Desk) (n : ℕ) (out : List ℕ) : Type 0 where
   pub from : begun ≤ i
   pub kept : length e ≤ 64 → Keeps (after d (take i piece)) (e ++ drop begun (take i piece))
